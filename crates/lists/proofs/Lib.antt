@@ -1,0 +1,11 @@
+pub mod Cases
+pub mod Tests
+pub mod Sums
+pub mod Parts
+pub mod Repeats
+pub mod Reversal
+pub mod Buffers
+pub mod Signed
+pub mod Differences
+pub mod Thresholds
+pub mod Powers
