@@ -1,0 +1,3 @@
+pub mod Colour
+pub mod Root
+pub mod Ranges

@@ -1,0 +1,44 @@
+-- What holds of the measures of a pixel of bytes; proved in proofs/Ranges. Assumes nothing.
+use Prim.Native.Nat.{ℕ, _+_, _*_, _≤_, _<_}
+use mathlib.Core.Path.{_≡_}
+use mathlib.Core.Bool.{false}
+use lib.IntN.{pos}
+use Rattle.pixel.specs.declared.Pixel.{Pixel}
+use Rattle.pixel.specs.declared.Measures.{Measures}
+use Rattle.pixel.specs.Colour.{Point, chromaSquared, saturationBin, isGrey, huePoint, quarter, turnedBack, turnedOf, measuresOf}
+
+-- 'R, G, B are bytes'
+pub record Bytes (p : Pixel) : Type 0 where
+  pub red : p .red < 256
+  pub green : p .green < 256
+  pub blue : p .blue < 256
+
+-- '0 to 51', '0 to 41', '0 to 59'
+pub record InRange (m : Measures) : Type 0 where
+  pub intensity : m .intensity ≤ 51
+  pub saturation : m .saturation ≤ 41
+  pub hue : m .hue ≤ 59
+
+abbrev pub AlwaysInRange : Type 0
+AlwaysInRange = (p : Pixel) → Bytes p → InRange (measuresOf p)
+
+-- Q is the paper's: the difference of natural numbers cuts nothing off
+abbrev pub ChromaWhole : Type 0
+ChromaWhole = (p : Pixel)
+    → chromaSquared p + (p .red * p .green + p .green * p .blue + p .blue * p .red) ≡ p .red * p .red + p .green * p .green + p .blue * p .blue
+
+-- 'the largest j with 75j² ≤ 2Q', of all j
+pub record SaturationLargest (p : Pixel) : Type 0 where
+  pub passes : 75 * (saturationBin p * saturationBin p) ≤ 2 * chromaSquared p
+  pub largest : (j : ℕ) → 75 * (j * j) ≤ 2 * chromaSquared p → j ≤ saturationBin p
+
+abbrev pub AlwaysLargest : Type 0
+AlwaysLargest = (p : Pixel) → Bytes p → SaturationLargest p
+
+-- 'to (a,b) with a>0, b≥0': the two numbers that the hue bin is made of are the turned point's own
+pub record TurnedToFirst (c : Point) : Type 0 where
+  pub aPositive : 0 < turnedOf c .a
+  pub point : turnedBack (quarter c) c ≡ record { x = pos (turnedOf c .a); y = pos (turnedOf c .b) }
+
+abbrev pub ColouredTurns : Type 0
+ColouredTurns = (p : Pixel) → isGrey p ≡ false → TurnedToFirst (huePoint p)
