@@ -1,0 +1,29 @@
+-- The logarithm's worker: the state that a round takes and hands back. Assumes nothing.
+-- The bits found so far are one whole number: each round doubles it and adds the bit found, so that no round needs to know its place.
+use Prim.Native.Nat.{ℕ, zero, suc, _+_, _*_, _-_, _/_, _^_, _≤_, _<_}
+use mathlib.Core.Bool.{cond}
+use lib.Dec.{leb}
+use Rattle.logarithm.specs.declared.Logarithm.{Logarithm}
+use Rattle.logarithm.specs.Log.{floorLog}
+
+-- 'scale x by a power of two to y in [2^31, 2^32)'
+unfoldable pub start : ℕ → Logarithm
+start x = let f : ℕ = floorLog 31 x in record { mantissa = x * 2 ^ (31 - f); bits = f }
+
+-- a state that a round takes: the mantissa has 32 bits, and there is room for one bit more
+pub record Ready (s : Logarithm) : Type 0 where
+  pub low : 2 ^ 31 ≤ s .mantissa
+  pub high : s .mantissa < 2 ^ 32
+  pub room : s .bits < 2 ^ 63
+
+-- 'each round takes the worker's state and hands the next state back'
+unfoldable pub round : Logarithm → Logarithm
+round s =
+    cond (leb (2 ^ 63) (s .mantissa * s .mantissa))
+    (record { mantissa = s .mantissa * s .mantissa / 2 ^ 32; bits = 2 * s .bits + 1 })
+    (record { mantissa = s .mantissa * s .mantissa / 2 ^ 31; bits = 2 * s .bits })
+
+-- n rounds
+unfoldable pub after : ℕ → Logarithm → Logarithm
+after zero s = s
+after (suc n) s = after n (round s)
