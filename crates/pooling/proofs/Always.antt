@@ -1,0 +1,35 @@
+-- The statements of `specs/Best.antt`: every fit is pooled, its blocks are the only ones, and a decreasing fit is the mirror image. Assumes nothing.
+use mathlib.Core.Path.{_≡_, refl, sym, _∙_, ap}
+use mathlib.Core.List.{List, [], _∷_, reverse, reverseAux}
+use Prim.Native.Nat.{ℕ}
+use native.Mathlib.Omega.{arith}
+use Rattle.lists.proofs.Repeats.{replicate-back}
+use Rattle.pooling.specs.Blocks.{Block, increasing, blocks, spread, fitted}
+use Rattle.pooling.specs.Best.{CutInto, empty, first, AlwaysPooled, BlocksUnique, MirrorImage, DenominatorExists}
+use Rattle.pooling.proofs.Leading.{Full}
+use Rattle.pooling.proofs.Unique.{product, product-pos, multiple-of}
+use Rattle.pooling.proofs.Laws.{fit-best, blocks-cut, blocks-strict, blocks-unique, blocks-mirror}
+
+pub denominator-exists : DenominatorExists
+denominator-exists ys p = (product ys, product-pos ys p, multiple-of ys p 1 (product ys) (omega arith))
+
+pub always-pooled : AlwaysPooled
+always-pooled w h = record { cut = blocks-cut w h; strict = blocks-strict w h; best = fit-best w h }
+
+cut-full : {h : List ℕ} {bs : List Block} → CutInto h bs → Full bs
+cut-full empty = tt
+cut-full (first x some c) = (some, cut-full c)
+
+pub only-blocks : BlocksUnique
+only-blocks w h bs c s k = blocks-unique w h bs (cut-full c) s k
+
+spread-back : (bs cs : List Block) → spread (reverseAux bs cs) ≡ reverseAux (spread bs) (spread cs)
+spread-back [] cs = refl
+spread-back (b ∷ bs) cs = spread-back bs (b ∷ cs) ∙ sym (replicate-back (b .len) b (spread bs) (spread cs))
+
+pub mirror-image : MirrorImage
+unfolding fitted
+mirror-image h = record {
+  blocksMirrored = blocks-mirror increasing h;
+  fitMirrored = ap spread (blocks-mirror increasing h) ∙ spread-back (blocks increasing (reverse h)) [];
+}

@@ -1,0 +1,12 @@
+pub mod Leading
+pub mod Heavy
+pub mod Gap
+pub mod Scale
+pub mod Fit
+pub mod Unique
+pub mod Mirror
+pub mod Laws
+pub mod Always
+pub mod Stacking
+pub mod Places
+pub mod Filling

@@ -1,0 +1,4 @@
+pub mod Blocks
+pub mod Fraction
+pub mod Best
+pub mod Stack

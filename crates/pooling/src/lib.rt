@@ -1,0 +1,115 @@
+// Pooling: the blocks of a monotone fit, and each bin's place in them.
+ghost use mathlib.Core.Path.{_≡_};
+ghost use mathlib.Core.List.{[], _++_, map};
+ghost use Prim.Native.Nat.{_+_, _-_, _<_, _≤_};
+ghost use lib.ListN.{length, take, replicate};
+ghost use Rattle.lists.specs.Lists.{total, over};
+ghost use Rattle.pooling.specs.Blocks.{Block, Place, direction, stepsTo, pushAll, places};
+ghost use Rattle.pooling.specs.Blocks as Blocks;
+ghost use Rattle.pooling.specs.Stack.{stackOf, sumIn, binsIn};
+
+// A ring of 256 bins is opened at its lowest bin, which is repeated: 257 bins. Of a sum of 65,536 the lowest of two or more bins
+// has at most half, so the sum is at most 98,304.
+pub const MOST_BINS: usize = 257;
+
+// A block of neighbouring bins: 'a mean is kept as sum and length'.
+pub struct Block {
+    pub sum: u64,
+    pub len: u64,
+}
+
+// A bin's place: its block, and the number of that block's first bin.
+pub struct Place {
+    pub start: u64,
+    pub block: Block,
+}
+
+// From the mean s/l to the mean t/m is a strict step in the direction of the fit.
+fn steps_to(rising: bool, s: u32, l: u32, t: u32, m: u32) -> bool
+    requires { ⌜ (s ≤ 98304) × (l ≤ 257) × (t ≤ 98304) × (m ≤ 257) ⌝ }
+    ensures { λ r. ⌜ r ≡ stepsTo (direction rising) (record { sum = s; len = l }) (record { sum = t; len = m }) ⌝ }
+{
+    if rising { s * m < t * l } else { t * l < s * m }
+}
+
+// One bin comes on top of the stack of blocks in the first n places: how many blocks there are then.
+fn push(sums: &mut [u32], lens: &mut [u32], n: usize, rising: bool, x: u32) -> usize
+    requires { ⌜ (n < length (now sums))
+        × (n < length (now lens))
+        × (sumIn (stackOf (now sums) (now lens) n) + x ≤ 98304)
+        × (binsIn (stackOf (now sums) (now lens) n) < 257) ⌝ }
+    ensures { λ r. ⌜ stackOf (now (sums .exit)) (now (lens .exit)) r
+        ≡ Blocks.push (direction rising) (record { sum = x; len = 1 }) (stackOf (now (sums .entry)) (now (lens .entry)) n) ⌝ }
+{
+    let mut top = n;
+    let mut s = x;
+    let mut l: u32 = 1;
+    while 0 < top {
+        let k = top - 1;
+        let a = sums[k];
+        let b = lens[k];
+        if steps_to(rising, a, b, s, l) {
+            break;
+        }
+        s = a + s;
+        l = b + l;
+        top = k;
+    }
+    sums[top] = s;
+    lens[top] = l;
+    top + 1
+}
+
+// The stack of the blocks of all bins: how many there are.
+fn pool(h: &[u32], rising: bool, sums: &mut [u32], lens: &mut [u32]) -> usize
+    requires { ⌜ (length (now h) ≤ 257) × (total (now h) ≤ 98304) × (length (now h) ≤ length (now sums)) × (length (now h) ≤ length (now lens)) ⌝ }
+    ensures { λ r. ⌜ stackOf (now (sums .exit)) (now (lens .exit)) r ≡ pushAll (direction rising) (now (h .entry)) [] ⌝ }
+{
+    let mut n = 0;
+    let mut i = 0;
+    while i < h.len() {
+        n = push(sums, lens, n, rising, h[i]);
+        i += 1;
+    }
+    n
+}
+
+// One value in the places from `from` up to the one before `to`.
+fn fill(a: &mut [u32], from: usize, to: usize, v: u32)
+    requires { ⌜ (from ≤ to) × (to ≤ length (now a)) ⌝ }
+    ensures { λ _. ⌜ now (a .exit) ≡ over (take from (now (a .entry)) ++ replicate (to - from) v) (now (a .entry)) ⌝ }
+{
+    let mut i = from;
+    while i < to {
+        a[i] = v;
+        i += 1;
+    }
+}
+
+// Each bin's place: the first bin, the sum and the length of its block.
+pub fn fit_places(h: &[u32], rising: bool, starts: &mut [u32], sums: &mut [u32], lens: &mut [u32])
+    requires { ⌜ (length (now h) ≤ 257)
+        × (total (now h) ≤ 98304)
+        × (length (now h) ≤ length (now starts))
+        × (length (now h) ≤ length (now sums))
+        × (length (now h) ≤ length (now lens)) ⌝ }
+    ensures starts { λ _. ⌜ now (starts .exit) ≡ over (map (λ (p : Place). p .start) (places (direction rising) (now (h .entry)))) (now (starts .entry)) ⌝ }
+    ensures sums { λ _. ⌜ now (sums .exit) ≡ over (map (λ (p : Place). p .block .sum) (places (direction rising) (now (h .entry)))) (now (sums .entry)) ⌝ }
+    ensures lens { λ _. ⌜ now (lens .exit) ≡ over (map (λ (p : Place). p .block .len) (places (direction rising) (now (h .entry)))) (now (lens .entry)) ⌝ }
+{
+    let mut block_sums = [0u32; MOST_BINS];
+    let mut block_lens = [0u32; MOST_BINS];
+    let n = pool(h, rising, &mut block_sums, &mut block_lens);
+    let mut k = 0;
+    let mut from: usize = 0;
+    while k < n {
+        let s = block_sums[k];
+        let l = block_lens[k];
+        let to = from + l as usize;
+        fill(starts, from, to, from as u32);
+        fill(sums, from, to, s);
+        fill(lens, from, to, l);
+        from = to;
+        k += 1;
+    }
+}
