@@ -1,0 +1,43 @@
+-- Signed numbers as the machine holds them: a difference of two natural ones, and the test of two signed ones. Assumes nothing.
+use mathlib.Core.Path.{_≡_, refl, sym, ap, _∙_}
+use mathlib.Core.Bool.{Bool, true, false, cond}
+use Prim.Native.Nat.{ℕ, zero, suc, _+_, _-_, _^_, _≤_, _<_}
+use native.Mathlib.Nat.{add-zero}
+use native.Mathlib.Omega.{arith}
+use lib.Dec.{ltb}
+use lib.IntN.{ℤ, pos, negsuc, subℕ, _-ℤ_}
+use lib.Signed.{ltZ, mag}
+use mir.Syntax.{w64}
+use mir.Val.{SFits, toZ, ofZ}
+use mir.ValLaws.{toZ-pos, toZ-ofZ}
+use borrow.Author.Tests.{ltb-true, ltb-false, le-ltb}
+
+-- the difference of two natural numbers, as `subℕ` has it
+pub difference-is : (a b : ℕ) → pos a -ℤ pos b ≡ subℕ a b
+difference-is a zero = simp (le-ltb a 0 (omega arith)) (ap pos (omega arith))
+difference-is a (suc b) = refl
+
+pub difference-fits : (a b : ℕ) → a < 2 ^ 63 → b < 2 ^ 63 → SFits w64 (subℕ a b)
+difference-fits a b h k = go (ltb a b)
+  where
+    go : (t : Bool) → SFits w64 (cond t (negsuc (b - suc a)) (pos (a - b)))
+    go true = record { sfits = omega arith }
+    go false = record { sfits = omega arith }
+
+-- the machine's difference of two numbers below 2 ^ 63
+pub machine-difference : (a b : ℕ) → a < 2 ^ 63 → b < 2 ^ 63 → toZ w64 a -ℤ toZ w64 b ≡ subℕ a b
+machine-difference a b h k = rw (toZ-pos w64 a h, toZ-pos w64 b k) (difference-is a b)
+
+-- the machine's test of two signed numbers
+pub machine-less : (x y : ℤ) (t : Bool) → SFits w64 x → SFits w64 y → ltZ (toZ w64 (ofZ w64 x)) (toZ w64 (ofZ w64 y)) ≡ t → ltZ x y ≡ t
+machine-less x y t f g e = sym (ap (λ (z : ℤ). ltZ z y) (toZ-ofZ w64 x f)) ∙ sym (ap (λ (z : ℤ). ltZ (toZ w64 (ofZ w64 x)) z) (toZ-ofZ w64 y g)) ∙ e
+
+-- a signed number that a call hands back is read from its bits as it is
+pub handed-back : {z : ℤ} → mag z < 2 ^ 63 → toZ w64 (ofZ w64 z) ≡ z
+handed-back h = toZ-ofZ w64 _ (record { sfits = h })
+
+-- a small number taken off a small signed one
+pub less-fits : (x : ℤ) (b : ℕ) → mag x < 2 ^ 62 → b < 2 ^ 62 → SFits w64 (x -ℤ pos b)
+less-fits (pos a) b h k = rw (difference-is a b) (difference-fits a b (omega arith) (omega arith))
+less-fits (negsuc a) zero h k = difference-fits 0 (suc a) (omega arith) (omega arith)
+less-fits (negsuc a) (suc b) h k = record { sfits = omega arith }

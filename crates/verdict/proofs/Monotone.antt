@@ -1,0 +1,149 @@
+-- A stretch that already goes the tested way is its own best fit: every weight is 0, and its cost is minus the bar. Assumes nothing.
+use Prim.Native.Nat.{ℕ, zero, suc, _+_, _*_, _-_, _/_, _≤_, _<_}
+use mathlib.Core.Path.{_≡_, refl, sym, ap, _∙_, subst}
+use mathlib.Core.List.{List, [], _∷_, map}
+use native.Mathlib.Omega.{arith}
+use native.Mathlib.Numerals.{add-one}
+use native.Mathlib.Nat.{div-one, mod-one, eq-of-mul-eq-mul-right}
+use borrow.Author.Tests.{le-ltb}
+use lib.Dec.{le→leb}
+use lib.IntN.{ℤ, pos, negℤ, natAbs, subℕ, _-ℤ_, ℤ-discrete, +ℤ-idl, +ℤ-invr}
+use lib.ListN.{length, take, getD, length-map, List·getD-map}
+use Rattle.lists.specs.Lists.{total, part}
+use Rattle.lists.proofs.Sums.{total-part, total-part-le, total-more}
+use Rattle.lists.proofs.Parts.{largest-constant}
+use Rattle.logarithm.specs.Log.{lg}
+use Rattle.pooling.specs.Blocks.{Direction, increasing, decreasing, blocks, spread}
+use Rattle.pooling.specs.Fraction.{Fraction, _≈_, Proper, Ordered, OrderedFrom, Follows, CommonDenominator, times, sq, error}
+use Rattle.pooling.specs.Best.{mean, means, at}
+use Rattle.pooling.proofs.Gap.{levels, Splits}
+use Rattle.pooling.proofs.Laws.{blocks-cut, fit-best}
+use Rattle.pooling.proofs.Always.{denominator-exists}
+use Rattle.verdict.specs.declared.Mass.{Mass}
+use Rattle.verdict.specs.Test.{Closeness, placeOf, fittedMass, weight, partWeight, bar, largestWeight, cost}
+use Rattle.verdict.specs.Exactness.{InOrder, Monotone}
+use Rattle.verdict.proofs.Masses.{upTo, up-to-more, Stands, place-stands, mass-levels, means-splits}
+
+-- ---- a weight of 0
+sub-self-ℤ : (x : ℕ) → subℕ x x ≡ pos 0
+sub-self-ℤ x =
+    let z : x - x ≡ 0 = omega arith in
+    rw (le-ltb x x (omega arith)) (ap pos z)
+
+-- where the fitted mass is the count, A = kB
+pub weight-zero : (n k : ℕ) (m : Mass) → m .num ≡ k * m .den → k ≤ n → weight n k m ≡ pos 0
+unfolding weight
+weight-zero n k m e l =
+    let d : (n - k) + k ≡ n = omega arith in
+    let r : n * m .den - m .num ≡ (n - k) * m .den = omega (arith, ap (λ (z : ℕ). z * m .den) d) in
+    rw (r, e) (sub-self-ℤ (k * lg (k * m .den) + (n - k) * lg ((n - k) * m .den)))
+
+-- ---- the counts as fractions
+abbrev counts : List ℕ → List Fraction
+counts h = map (λ x. record { num = pos x; den = 1 }) h
+
+counts-proper : (h : List ℕ) → Proper (counts h)
+counts-proper [] = tt
+counts-proper (x ∷ h) = (omega arith, counts-proper h)
+
+counts-denominator : (D : ℕ) (h : List ℕ) → CommonDenominator D (counts h)
+counts-denominator D [] = tt
+counts-denominator D (x ∷ h) = (mod-one D, counts-denominator D h)
+
+counts-follow : (w : Direction) (a b : ℕ) → InOrder w a b → Follows w (record { num = pos a; den = 1 }) (record { num = pos b; den = 1 })
+counts-follow increasing a b o = record { le = le→leb (a * 1) (b * 1) (omega arith) }
+counts-follow decreasing a b o = record { le = le→leb (b * 1) (a * 1) (omega arith) }
+
+counts-from : (w : Direction) (x : ℕ) (h : List ℕ) → Monotone w (x ∷ h) → OrderedFrom w (record { num = pos x; den = 1 }) (counts h)
+counts-from w x [] m = tt
+counts-from w x (y ∷ h) m = (counts-follow w x y (m 0 (omega arith)), counts-from w y h (λ i l. m (suc i) (omega arith)))
+
+counts-ordered : (w : Direction) (h : List ℕ) → Monotone w h → Ordered w (counts h)
+counts-ordered w [] m = tt
+counts-ordered w (x ∷ h) m = counts-from w x h m
+
+counts-exact : (D : ℕ) (h : List ℕ) → error D h (counts h) ≡ 0
+counts-exact D [] = refl
+counts-exact D (x ∷ h) =
+    let e : pos (x * D) -ℤ pos (x * (D / 1)) ≡ pos 0 = ap (λ (n : ℕ). pos (x * D) -ℤ pos (x * n)) (div-one D) ∙ +ℤ-invr (pos (x * D)) in
+    omega (arith, ap sq e, counts-exact D h)
+
+-- ---- the means are the counts
+count-at : (h : List ℕ) (i : ℕ) → at (counts h) i ≡ record { num = pos (getD h i 0); den = 1 }
+count-at h i = List·getD-map (λ x. record { num = pos x; den = 1 }) h i 0
+
+mean-count : (w : Direction) (h : List ℕ) → Monotone w h → (i : ℕ) → i < length h → at (means (blocks w h)) i ≈ at (counts h) i
+mean-count w h m i l = go (ℤ-discrete _ _)
+  where
+    go : Dec (at (means (blocks w h)) i ≈ at (counts h) i) → at (means (blocks w h)) i ≈ at (counts h) i
+    go (yes e) = e
+    go (no n) =
+        let best = fit-best w h in
+        let one = denominator-exists (means (blocks w h)) (best .positive) in
+        absurd (omega (
+          arith,
+          best .leastError (counts h) (length-map h _) (counts-proper h) (counts-ordered w h m) i l n (one .0) (one .1) (one .2) (counts-denominator (one .0) h),
+          counts-exact (one .0) h,
+        ))
+
+-- the sum of a block is its length times the count of each of its bins
+sum-count : (w : Direction) (h : List ℕ) → Monotone w h → (i : ℕ) → i < length h → placeOf (blocks w h) i .block .sum ≡ getD h i 0 * placeOf (blocks w h) i .block .len
+sum-count w h m i l =
+    let b = placeOf (blocks w h) i .block in
+    let P = place-stands (blocks-cut w h) i l in
+    let e : at (means (blocks w h)) i ≡ mean b = List·getD-map mean (spread (blocks w h)) i (record { sum = 0; len = 1 }) ∙ ap mean (P .spreads) in
+    let f : mean b ≈ record { num = pos (getD h i 0); den = 1 } =
+    subst (λ (z : Fraction). mean b ≈ z) (count-at h i) (subst (λ (z : Fraction). z ≈ at (counts h) i) e (mean-count w h m i l)) in
+    omega (arith, ap natAbs f)
+
+-- ---- so the levels are the counts, times D
+bin-level : (D a l s x F F′ : ℕ) → a * l ≡ D → s ≡ x * l → F′ ≡ F + s * a → F′ ≡ F + D * x
+bin-level D a l s x F F′ hd hs hF = omega (arith, ap (λ (z : ℕ). x * z) hd, ap (λ (z : ℕ). a * z) hs)
+
+module _ (w : Direction) (h : List ℕ) (m : Monotone w h) where
+  level-count : (D : ℕ) → Splits D (blocks w h) → (i : ℕ) → i < length h → upTo D (blocks w h) (suc i) ≡ upTo D (blocks w h) i + D * getD h i 0
+  level-count D v i l =
+      let b = placeOf (blocks w h) i .block in
+      let P : Stands h (blocks w h) i (placeOf (blocks w h) i) = place-stands (blocks-cut w h) i l in
+      bin-level D (D / b .len) (b .len) (b .sum) (getD h i 0) _ _ (P .level D v .split) (sum-count w h m i l) (up-to-more P D v)
+
+  levels-counts : (D : ℕ) → Splits D (blocks w h) → (i : ℕ) → i ≤ length h → upTo D (blocks w h) i ≡ D * total (take i h)
+  levels-counts D v zero l = omega arith
+  levels-counts D v (suc i) l =
+      omega (
+        arith,
+        level-count D v i l,
+        levels-counts D v i (omega arith),
+        ap (λ (z : ℕ). D * z) (ap (λ (n : ℕ). total (take n h)) (sym (add-one i)) ∙ total-more h i l),
+      )
+
+  -- the fitted mass of a part is its count
+  pub mass-count : (i j : ℕ) → i ≤ j → j < length h → fittedMass h (blocks w h) i j .num ≡ total (part i j h) * fittedMass h (blocks w h) i j .den
+  mass-count i j o l =
+      let one = denominator-exists (means (blocks w h)) (fit-best w h .positive) in
+      over (one .0) (one .1) (means-splits (blocks-cut w h) (one .0) (one .2))
+    where
+      over : (D : ℕ) → 0 < D → Splits D (blocks w h) → fittedMass h (blocks w h) i j .num ≡ total (part i j h) * fittedMass h (blocks w h) i j .den
+      over D some v =
+          let e : total (part i j (levels D (blocks w h))) ≡ D * total (part i j h) =
+          omega (
+            arith,
+            total-part i j (levels D (blocks w h)) (omega arith),
+            levels-counts D v i (omega arith),
+            levels-counts D v (suc j) l,
+            ap (λ (z : ℕ). D * z) (total-part i j h (omega arith)),
+          ) in
+          eq-of-mul-eq-mul-right D some _ _
+          (mass-levels (blocks-cut w h) i j o l D v ∙ ap (λ (z : ℕ). fittedMass h (blocks w h) i j .den * z) e ∙ omega arith)
+
+  part-weight-zero : (i j : ℕ) → i ≤ j → j < length h → partWeight h (blocks w h) i j ≡ pos 0
+  unfolding partWeight
+  part-weight-zero i j o l =
+      weight-zero (total h) (total (part i j h)) (fittedMass h (blocks w h) i j) (mass-count i j o l) (total-part-le i j h (omega arith))
+
+  pub monotone-cost : (e : Closeness) → 1 ≤ length h → cost e w h ≡ negℤ (pos (bar e (length h)))
+  unfolding cost largestWeight
+  monotone-cost e some =
+      ap (λ (z : ℤ). z -ℤ pos (bar e (length h)))
+      (largest-constant (length h - 1) _ (pos 0) (λ j l. largest-constant j _ (pos 0) (λ i o. part-weight-zero i j o (omega arith))))
+      ∙ +ℤ-idl _

@@ -1,0 +1,87 @@
+-- Document 01, 'Exactness', and what stands behind every verdict. Assumes nothing.
+use Prim.Native.Nat.{ℕ, suc, _+_, _*_, _-_, _/_, _^_, _≤_, _<_}
+use mathlib.Core.Path.{_≡_}
+use mathlib.Core.Bool.{true, false}
+use mathlib.Core.List.{List}
+use lib.ListN.{length, getD}
+use lib.IntN.{pos, negℤ, _*ℤ_}
+use Rattle.lists.specs.Lists.{total, part}
+use Rattle.logarithm.specs.Log.{unitsPerBit}
+use Rattle.pooling.specs.Blocks.{Direction, increasing, decreasing, blocks}
+use Rattle.pooling.specs.Fraction.{CommonDenominator, sumOf}
+use Rattle.pooling.specs.Best.{means, Pooled}
+use Rattle.verdict.specs.declared.Mass.{Mass}
+use Rattle.verdict.specs.Test.{Closeness, fittedMass, bar, cost, rejected}
+
+-- 'X = (kB)^k·((N−k)B)^(N−k)', with 0^0 = 1; k ≤ N and A ≤ NB, so no difference is ever negative
+unfoldable pub observed : ℕ → ℕ → Mass → ℕ
+observed n k m = (k * m .den) ^ k * ((n - k) * m .den) ^ (n - k)
+
+-- 'Y = A^k·(NB−A)^(N−k)'
+unfoldable pub expected : ℕ → ℕ → Mass → ℕ
+expected n k m = m .num ^ k * (n * m .den - m .num) ^ (n - k)
+
+-- '2^e·L(L+1)/2'
+unfoldable pub exactBar : Closeness → ℕ → ℕ
+exactBar e l = 2 ^ e * (l * suc l / 2)
+
+-- what the logarithms of a weight ask of a part that holds k of the n counts: kB, (N−k)B, A and NB−A are below 2^32, and 1 or more where their factor is not 0
+pub record InRange (n k : ℕ) (m : Mass) : Type 0 where
+  pub partial : k ≤ n
+  pub positive : 0 < m .den
+  pub within : m .num ≤ n * m .den
+  pub below : n * m .den < 2 ^ 32
+  pub someMass : 0 < k → 0 < m .num
+  pub someRest : k < n → m .num < n * m .den
+
+-- no step from a bin to the next goes against the direction
+abbrev pub InOrder : Direction → ℕ → ℕ → Type 0
+InOrder increasing a b = a ≤ b
+InOrder decreasing a b = b ≤ a
+
+abbrev pub Monotone : Direction → List ℕ → Type 0
+Monotone w h = (i : ℕ) → suc i < length h → InOrder w (getD h i 0) (getD h (suc i) 0)
+
+module _ (e : Closeness) (w : Direction) (h : List ℕ) where
+  -- X of the part from bin i to bin j
+  unfoldable pub partX : ℕ → ℕ → ℕ
+  partX i j = observed (total h) (total (part i j h)) (fittedMass h (blocks w h) i j)
+
+  -- its Y times the bar
+  unfoldable pub partBar : ℕ → ℕ → ℕ
+  partBar i j = exactBar e (length h) * expected (total h) (total (part i j h)) (fittedMass h (blocks w h) i j)
+
+  -- log2(X/Y) is 'above log2(2^e·L(L+1)/2) less 2N+2 units', 'over whole numbers, both sides raised to 2^24'
+  pub record Above (i j : ℕ) : Type 0 where
+    pub ends : (i ≤ j) × (j < length h)
+    pub above : partBar i j ^ unitsPerBit < partX i j ^ unitsPerBit * 2 ^ (2 * total h + 2)
+
+  -- log2(X/Y) is 'below that bar plus 2N units'
+  pub record BelowBar (i j : ℕ) : Type 0 where
+    pub below : partX i j ^ unitsPerBit < partBar i j ^ unitsPerBit * 2 ^ (2 * total h)
+
+  -- 'A rejection means that some part' is above; 'an acceptance means that every part' is below
+  pub record Exact : Type 0 where
+    pub rejection : rejected e w h ≡ true → (i : ℕ) × (j : ℕ) × Above i j
+    pub acceptance : rejected e w h ≡ false → (i j : ℕ) → i ≤ j → j < length h → BelowBar i j
+
+  -- A/B is the sum of the fitted means over the part: A·D = B·(that sum times D), for every common denominator D
+  pub record MassOfFit (i j : ℕ) : Type 0 where
+    pub positive : 0 < fittedMass h (blocks w h) i j .den
+    pub mass : (D : ℕ) → 0 < D → CommonDenominator D (means (blocks w h))
+        → pos (fittedMass h (blocks w h) i j .num * D)
+        ≡ pos (fittedMass h (blocks w h) i j .den) *ℤ sumOf D (part i j (means (blocks w h)))
+
+  -- what stands behind the verdict of the stretch h: its fit, the fitted masses that are the fit's, the exact relative entropy;
+  -- and a stretch that already goes the tested way has weight 0 in every part, so its cost is minus the bar
+  pub record VerdictSound : Type 0 where
+    pub fit : Pooled w h
+    pub masses : (i j : ℕ) → i ≤ j → j < length h → MassOfFit i j
+    pub inRange : (i j : ℕ) → i ≤ j → j < length h → InRange (total h) (total (part i j h)) (fittedMass h (blocks w h) i j)
+    pub exact : 2 ≤ length h → Exact
+    pub monotone : 1 ≤ length h → Monotone w h → cost e w h ≡ negℤ (pos (bar e (length h)))
+
+-- to be proved. A ring of up to 256 bins and 65,536 counts with its lowest bin repeated has up to 257 bins and 98,304 counts (two equal bins become three);
+-- then NB is at most 98,304 · 128 · 129, within the logarithm's range
+abbrev pub VerdictAlwaysSound : Type 0
+VerdictAlwaysSound = (e : Closeness) (w : Direction) (h : List ℕ) → length h ≤ 257 → total h ≤ 98304 → VerdictSound e w h

@@ -1,0 +1,83 @@
+-- Document 01, 'The test'. Assumes nothing.
+--   L, N, k      length h, total h, total of a part
+--   Mass         a part's fitted mass A/B (num/den)
+--   bar, cost    Θ, and the largest weight W less Θ
+use Prim.Native.Nat.{ℕ, suc, _+_, _*_, _-_, _/_}
+use mathlib.Core.Bool.{Bool, cond, _&&_}
+use mathlib.Core.List.{List}
+use lib.Dec.{leb, eqb}
+use lib.ListN.{length, take, drop, getD}
+use lib.IntN.{ℤ, pos, subℕ, _-ℤ_}
+use lib.Signed.{leZ}
+use Rattle.lists.specs.Lists.{total, part, largest}
+use Rattle.logarithm.specs.Log.{unitsPerBit, lg}
+use Rattle.pooling.specs.declared.Block.{Block}
+use Rattle.pooling.specs.declared.Place.{Place}
+use Rattle.pooling.specs.Blocks.{Direction, blocks, placesFrom}
+use Rattle.verdict.specs.declared.Mass.{Mass}
+use Rattle.verdict.specs.declared.Verdict.{Verdict}
+
+-- closeness is document 01's own term: 'e is 0 to 20, standing for 002's ε = 1/2^e'
+abbrev pub Closeness : Type 0
+Closeness = ℕ
+
+unfoldable pub mostCloseness : Closeness
+mostCloseness = 20
+
+-- the place of bin i
+unfoldable pub placeOf : List Block → ℕ → Place
+placeOf bs i = getD (placesFrom 0 bs) i (record { start = 0; block = record { sum = 0; len = 1 } })
+
+-- 'B is the length of the block if both ends of the part lie in one block': bins i to j of the block at p, with i ≤ j
+unfoldable pub massWithin : Place → ℕ → ℕ → Mass
+massWithin p i j = record { num = (suc j - i) * p .block .sum; den = p .block .len }
+
+-- so many bins of a first block, the counts between, and so many bins of a last block, over 'the product of the two end blocks' lengths'
+abbrev pub massOfThree : (tail sum len between head lastSum lastLen : ℕ) → Mass
+massOfThree tail sum len between head lastSum lastLen = record {
+  num = tail * sum * lastLen + between * (len * lastLen) + head * lastSum * len;
+  den = len * lastLen;
+}
+
+-- 'else': the tail of the block at p, the bins between, the head of the block at q.
+-- Bin i is in the first block, bin j in the second and the first ends at or before the second's start: no difference is ever negative
+unfoldable pub massAcross : List ℕ → Place → Place → ℕ → ℕ → Mass
+massAcross h p q i j =
+    let next = p .start + p .block .len in
+    massOfThree (next - i) (p .block .sum) (p .block .len) (total (take (q .start - next) (drop next h))) (suc j - q .start) (q .block .sum) (q .block .len)
+
+-- the fitted mass of the part from bin i to bin j of the stretch h with these blocks
+unfoldable pub fittedMass : List ℕ → List Block → ℕ → ℕ → Mass
+fittedMass h bs i j =
+    let p = placeOf bs i in
+    let q = placeOf bs j in
+    cond (eqb (p .start) (q .start)) (massWithin p i j) (massAcross h p q i j)
+
+-- 'W = k·(lg(kB)−lg(A)) + (N−k)·(lg((N−k)B)−lg(NB−A)); a term whose factor k or N−k is 0 is 0': one difference of two sums.
+-- k ≤ N, and A ≤ NB: no other difference is ever negative
+unfoldable pub weight : ℕ → ℕ → Mass → ℤ
+weight n k m =
+    subℕ (k * lg (k * m .den) + (n - k) * lg ((n - k) * m .den))
+    (k * lg (m .num) + (n - k) * lg (n * m .den - m .num))
+
+unfoldable pub partWeight : List ℕ → List Block → ℕ → ℕ → ℤ
+partWeight h bs i j = weight (total h) (total (part i j h)) (fittedMass h bs i j)
+
+-- 'Bar Θ = lg(L(L+1)/2) + e·2^24'
+unfoldable pub bar : Closeness → ℕ → ℕ
+bar e l = lg (l * suc l / 2) + e * unitsPerBit
+
+-- 'the largest W', over every part i ≤ j of the stretch, which has a bin
+unfoldable pub largestWeight : List ℕ → List Block → ℤ
+largestWeight h bs = largest (length h - 1) (λ j. largest j (λ i. partWeight h bs i j))
+
+-- 'The cost is the largest W less Θ'
+unfoldable pub cost : Closeness → Direction → List ℕ → ℤ
+cost e w h = largestWeight h (blocks w h) -ℤ pos (bar e (length h))
+
+-- 'rejected when its cost is 0 or more. A stretch of one bin is never rejected'
+unfoldable pub rejected : Closeness → Direction → List ℕ → Bool
+rejected e w h = leb 2 (length h) && leZ (pos 0) (cost e w h)
+
+unfoldable pub verdictOf : Closeness → Direction → List ℕ → Verdict
+verdictOf e w h = record { cost = cost e w h; rejected = rejected e w h }

@@ -1,0 +1,50 @@
+// The test of a stretch of bins: how far its parts are from a monotone fit, and whether that is too far.
+// One closeness, one direction, one stretch; `judge` gives its verdict.
+mod costs;
+mod parts;
+mod signed;
+mod weights;
+
+use costs::cost;
+use signed::not_negative;
+ghost use mathlib.Core.Path.{_≡_};
+ghost use Prim.Native.Nat.{_≤_};
+ghost use lib.ListN.{length};
+ghost use Rattle.pooling.specs.Blocks.{direction};
+ghost use Rattle.verdict.specs.Test.{verdictOf, mostCloseness};
+ghost use Rattle.verdict.specs.Tables.{Small};
+
+// Closeness is document 01's own term: 'closeness e is 0 to 20, standing for ε = 1/2^e'.
+pub const MOST_CLOSENESS: u32 = 20;
+
+// A part's fitted mass: document 01's A/B.
+pub struct Mass {
+    pub num: u64,
+    pub den: u64,
+}
+
+// 'The cost and whether the stretch is rejected are its verdict.'
+#[repr(C)]
+pub struct Verdict {
+    pub cost: i64,
+    pub rejected: bool,
+}
+
+// The verdict of a stretch of one bin or more.
+pub fn judge(h: &[u32], rising: bool, closeness: u32) -> Verdict
+    requires { ⌜ Small (now h) ⌝ }
+    requires { ⌜ (1 ≤ length (now h)) × (closeness ≤ mostCloseness) ⌝ }
+    ensures { λ r. ⌜ r ≡ verdictOf closeness (direction rising) (now (h .entry)) ⌝ }
+{
+    let found = cost(h, rising, closeness);
+    if h.len() < 2 {
+        return Verdict {
+            cost: found,
+            rejected: false,
+        };
+    }
+    Verdict {
+        cost: found,
+        rejected: not_negative(found),
+    }
+}

@@ -1,0 +1,133 @@
+// The parts of a stretch: what is kept of the stretch while they are tested, and the fitted mass of one.
+use crate::Mass;
+use pooling::Block;
+use pooling::Place;
+ghost use mathlib.Core.Path.{_≡_};
+ghost use Prim.Native.Nat.{_≤_, _<_};
+ghost use lib.ListN.{length};
+ghost use Rattle.pooling.specs.Blocks.{direction, blocks};
+ghost use Rattle.verdict.specs.Test.{placeOf, massWithin, massOfThree, massAcross, fittedMass};
+ghost use Rattle.verdict.specs.Tables.{Small, RunningTotals, PlacesHeld, Across, Tables};
+
+pub fn wide(x: u32) -> u64
+    ensures { λ r. ⌜ r ≡ x ⌝ }
+{
+    x as u64
+}
+
+// The counts before each bin, and of all bins behind the last.
+pub fn running_totals(h: &[u32], before: &mut [u32; 258])
+    requires { ⌜ Small (now h) ⌝ }
+    requires { ⌜ length (now before) ≡ 258 ⌝ }
+    ensures { λ _. ⌜ RunningTotals (now (h .entry)) (now (before .exit)) ⌝ }
+{
+    let mut sum: u32 = 0;
+    let mut i = 0;
+    before[0] = 0;
+    while i < h.len() {
+        sum = sum + h[i];
+        i += 1;
+        before[i] = sum;
+    }
+}
+
+// The place of bin i.
+fn place_at(
+    h: &[u32],
+    rising: bool,
+    starts: &[u32; 257],
+    sums: &[u32; 257],
+    lens: &[u32; 257],
+    i: usize,
+) -> Place
+    requires { ⌜ PlacesHeld (direction rising) (now h) (now starts) (now sums) (now lens) ⌝ }
+    requires { ⌜ (i < length (now h)) × (i < 257) ⌝ }
+    ensures { λ r. ⌜ r ≡ placeOf (blocks (direction rising) (now (h .entry))) i ⌝ }
+{
+    Place {
+        start: wide(starts[i]),
+        block: Block {
+            sum: wide(sums[i]),
+            len: wide(lens[i]),
+        },
+    }
+}
+
+// A part within one block: so many of its bins, each at its mean.
+fn mass_within(p: Place, i: usize, j: usize) -> Mass
+    requires { ⌜ (i ≤ j) × (j < 257) × (p .block .sum ≤ 98304) ⌝ }
+    ensures { λ r. ⌜ r ≡ massWithin p i j ⌝ }
+{
+    Mass {
+        num: ((j + 1 - i) as u64) * p.block.sum,
+        den: p.block.len,
+    }
+}
+
+// So many bins of a first block, the counts between, and so many bins of a last block, over the product of the two lengths.
+fn mass_of_three(
+    tail: u64,
+    sum: u64,
+    len: u64,
+    between: u64,
+    head: u64,
+    last_sum: u64,
+    last_len: u64,
+) -> Mass
+    requires { ⌜ (tail ≤ 257) × (sum ≤ 98304) × (len ≤ 257) × (between ≤ 98304) ⌝ }
+    requires { ⌜ (head ≤ 257) × («last_sum» ≤ 98304) × («last_len» ≤ 257) ⌝ }
+    ensures { λ r. ⌜ r ≡ massOfThree tail sum len between head «last_sum» «last_len» ⌝ }
+{
+    let product = len * last_len;
+    Mass {
+        num: tail * sum * last_len + between * product + head * last_sum * len,
+        den: product,
+    }
+}
+
+// A part across blocks: the tail of the first block, the counts between, and the head of the last block.
+fn mass_across(h: &[u32], before: &[u32; 258], p: Place, q: Place, i: usize, j: usize) -> Mass
+    requires { ⌜ Small (now h) ⌝ }
+    requires { ⌜ RunningTotals (now h) (now before) ⌝ }
+    requires { ⌜ Across (now h) p q i j ⌝ }
+    ensures { λ r. ⌜ r ≡ massAcross (now (h .entry)) p q i j ⌝ }
+{
+    let start = q.start as usize;
+    let next = (p.start + p.block.len) as usize;
+    let between = wide(before[start] - before[next]);
+    let tail = (next - i) as u64;
+    let head = (j + 1 - start) as u64;
+    mass_of_three(
+        tail,
+        p.block.sum,
+        p.block.len,
+        between,
+        head,
+        q.block.sum,
+        q.block.len,
+    )
+}
+
+// The fitted mass of the part from bin i to bin j.
+pub fn part_mass(
+    h: &[u32],
+    rising: bool,
+    before: &[u32; 258],
+    starts: &[u32; 257],
+    sums: &[u32; 257],
+    lens: &[u32; 257],
+    i: usize,
+    j: usize,
+) -> Mass
+    requires { ⌜ Tables (direction rising) (now h) (now before) (now starts) (now sums) (now lens) ⌝ }
+    requires { ⌜ (i ≤ j) × (j < length (now h)) ⌝ }
+    ensures { λ r. ⌜ r ≡ fittedMass (now (h .entry)) (blocks (direction rising) (now (h .entry))) i j ⌝ }
+{
+    let p = place_at(h, rising, starts, sums, lens, i);
+    let q = place_at(h, rising, starts, sums, lens, j);
+    if p.start == q.start {
+        mass_within(p, i, j)
+    } else {
+        mass_across(h, before, p, q, i, j)
+    }
+}

@@ -1,0 +1,36 @@
+// Signed figures: the difference of two sums, the larger of two, and the sign.
+ghost use mathlib.Core.Path.{_≡_};
+ghost use mathlib.Core.Bool.{cond};
+ghost use Prim.Native.Nat.{_<_, _^_};
+ghost use lib.IntN.{pos, subℕ, _-ℤ_};
+ghost use lib.Signed.{leZ, ltZ, mag};
+
+// a less b.
+pub fn difference(a: u64, b: u64) -> i64
+    requires { ⌜ (a < 2 ^ 63) × (b < 2 ^ 63) ⌝ }
+    ensures { λ r. ⌜ r ≡ subℕ a b ⌝ }
+{
+    (a as i64) - (b as i64)
+}
+
+// The larger of the two.
+pub fn larger(x: i64, y: i64) -> i64
+    ensures { λ r. ⌜ r ≡ cond (ltZ x y) y x ⌝ }
+{
+    if x < y { y } else { x }
+}
+
+// Zero or more.
+pub fn not_negative(x: i64) -> bool
+    ensures { λ r. ⌜ r ≡ leZ (pos 0) x ⌝ }
+{
+    0 <= x
+}
+
+// x less b.
+pub fn less(x: i64, b: u64) -> i64
+    requires { ⌜ (mag x < 2 ^ 62) × (b < 2 ^ 62) ⌝ }
+    ensures { λ r. ⌜ r ≡ x -ℤ pos b ⌝ }
+{
+    x - (b as i64)
+}
