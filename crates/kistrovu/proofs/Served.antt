@@ -1,0 +1,85 @@
+-- What a call's number says: of a served call no ground holds, and later grounds are asked only where none of the earlier holds. Assumes nothing.
+use Prim.Native.Nat.{ℕ, _≤_, _<_}
+use mathlib.Core.Path.{_≡_, refl, sym, _∙_}
+use mathlib.Core.Bool.{Bool, true, false, _||_, false≢true}
+use mathlib.Core.List.{List, [], _∷_, _++_}
+use lib.Dec.{ltb}
+use lib.ListN.{length}
+use native.Mathlib.Omega.{arith}
+use borrow.Author.Tests.{ltb-false}
+use Rattle.lists.specs.Lists.{total}
+use Rattle.verdict.specs.Test.{Closeness, mostCloseness}
+use Rattle.kistrovu.specs.Grounds.{Ground, firstGround, badLength, largeSum, badCloseness, fitNumber, verdictNumber}
+
+-- ---- grounds in sequence
+pub ground-holds : (g : Ground) (gs : List Ground) → g .holds ≡ true → firstGround (g ∷ gs) ≡ g .number
+unfolding firstGround
+ground-holds g gs e = rw e refl
+
+pub ground-passes : (g : Ground) (gs : List Ground) → g .holds ≡ false → firstGround (g ∷ gs) ≡ firstGround gs
+unfolding firstGround
+ground-passes g gs e = rw e refl
+
+-- no ground has the number of a served call
+abbrev Numbered : List Ground → Type 0
+Numbered [] = Unit {0}
+Numbered (g ∷ gs) = (0 < g .number) × Numbered gs
+
+-- where the number is 0, the first ground does not hold, and the rest give 0
+ground-none : (g : Ground) (gs : List Ground) → 0 < g .number → firstGround (g ∷ gs) ≡ 0 → (g .holds ≡ false) × (firstGround gs ≡ 0)
+ground-none g gs n e = go (g .holds) refl
+  where
+    go : (t : Bool) → g .holds ≡ t → (g .holds ≡ false) × (firstGround gs ≡ 0)
+    go true q = absurd (omega (arith, ground-holds g gs q))
+    go false q = (q, sym (ground-passes g gs q) ∙ e)
+
+pub grounds-served : (gs hs : List Ground) → Numbered gs → firstGround gs ≡ 0 → firstGround (gs ++ hs) ≡ firstGround hs
+grounds-served [] hs n e = refl
+grounds-served (g ∷ gs) hs n e =
+    let r = ground-none g gs (n .0) e in
+    ground-passes g (gs ++ hs) (r .0) ∙ grounds-served gs hs (n .1) (r .1)
+
+pub grounds-turned-down : (gs hs : List Ground) → ¬ (firstGround gs ≡ 0) → firstGround (gs ++ hs) ≡ firstGround gs
+unfolding firstGround
+grounds-turned-down [] hs n = absurd (n refl)
+grounds-turned-down (g ∷ gs) hs n = go (g .holds) refl (grounds-turned-down gs hs)
+  where
+    go : (t : Bool) → g .holds ≡ t → (¬ (firstGround gs ≡ 0) → firstGround (gs ++ hs) ≡ firstGround gs) → firstGround (g ∷ (gs ++ hs)) ≡ firstGround (g ∷ gs)
+    go true q ih = ground-holds g (gs ++ hs) q ∙ sym (ground-holds g gs q)
+    go false q ih = ground-passes g (gs ++ hs) q ∙ ih (λ e. n (ground-passes g gs q ∙ e)) ∙ sym (ground-passes g gs q)
+
+-- ---- histograms
+-- 2 to 256 bins with a sum of at most 65,536
+pub record Accepted (h : List ℕ) : Type 0 where
+  pub some : 2 ≤ length h
+  pub bins : length h ≤ 256
+  pub counts : total h ≤ 65536
+
+neither : (a b : Bool) → a || b ≡ false → (a ≡ false) × (b ≡ false)
+neither true b e = absurd (false≢true (sym e))
+neither false b e = (refl, e)
+
+pub fit-served : (h : List ℕ) → fitNumber h ≡ 0 → Accepted h
+unfolding fitNumber
+fit-served h e =
+    let a = ground-none (badLength h) (largeSum h ∷ []) (omega arith) e in
+    let b = ground-none (largeSum h) [] (omega arith) (a .1) in
+    let n = neither (ltb (length h) 2) (ltb 256 (length h)) (a .0) in
+    record { some = ltb-false _ _ (n .0); bins = ltb-false _ _ (n .1); counts = ltb-false _ _ (b .0) }
+
+module _ (e : Closeness) (h : List ℕ) where
+  pub verdict-turned-down : ¬ (fitNumber h ≡ 0) → verdictNumber e h ≡ fitNumber h
+  unfolding fitNumber verdictNumber
+  verdict-turned-down n = grounds-turned-down (badLength h ∷ largeSum h ∷ []) (badCloseness e ∷ []) n
+
+  pub verdict-asked : fitNumber h ≡ 0 → verdictNumber e h ≡ firstGround (badCloseness e ∷ [])
+  unfolding fitNumber verdictNumber
+  verdict-asked z = grounds-served (badLength h ∷ largeSum h ∷ []) (badCloseness e ∷ []) (omega arith, (omega arith, tt)) z
+
+  pub verdict-served : verdictNumber e h ≡ 0 → (fitNumber h ≡ 0) × (e ≤ mostCloseness)
+  unfolding fitNumber verdictNumber firstGround
+  verdict-served z =
+      let a = ground-none (badLength h) (largeSum h ∷ badCloseness e ∷ []) (omega arith) z in
+      let b = ground-none (largeSum h) (badCloseness e ∷ []) (omega arith) (a .1) in
+      let c = ground-none (badCloseness e) [] (omega arith) (b .1) in
+      (ground-passes (badLength h) (largeSum h ∷ []) (a .0) ∙ ground-passes (largeSum h) [] (b .0), ltb-false _ _ (c .0))

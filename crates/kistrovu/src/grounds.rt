@@ -1,0 +1,49 @@
+// The number of a call: the first of the grounds that concern it, or 0.
+use verdict::MOST_CLOSENESS;
+ghost use mathlib.Core.Path.{_≡_};
+ghost use Prim.Native.Nat.{_≤_};
+ghost use lib.ListN.{length};
+ghost use Rattle.lists.specs.Lists.{total};
+ghost use Rattle.kistrovu.specs.Grounds.{fitNumber, verdictNumber};
+
+// The sum of the counts. With no more than 256 of them it fits, whatever they are.
+fn sum(h: &[u32]) -> u64
+    requires { ⌜ length (now h) ≤ 256 ⌝ }
+    ensures { λ r. ⌜ r ≡ total (now (h .entry)) ⌝ }
+{
+    let mut sum: u64 = 0;
+    let mut i = 0;
+    while i < h.len() {
+        sum += h[i] as u64;
+        i += 1;
+    }
+    sum
+}
+
+pub fn fit_number(h: &[u32]) -> u32
+    ensures { λ r. ⌜ r ≡ fitNumber (now (h .entry)) ⌝ }
+{
+    if h.len() < 2 {
+        return 6;
+    }
+    if 256 < h.len() {
+        return 6;
+    }
+    if 65536 < sum(h) {
+        return 7;
+    }
+    0
+}
+
+pub fn verdict_number(h: &[u32], closeness: u32) -> u32
+    ensures { λ r. ⌜ r ≡ verdictNumber closeness (now (h .entry)) ⌝ }
+{
+    let number = fit_number(h);
+    if number != 0 {
+        return number;
+    }
+    if MOST_CLOSENESS < closeness {
+        return 8;
+    }
+    0
+}
