@@ -1,0 +1,2 @@
+mod Nearer
+mod Tables

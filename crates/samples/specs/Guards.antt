@@ -1,0 +1,50 @@
+-- Rows that plausible wrong readings of document 01 get wrong; each comment says what its rows hold fast. proofs/Tables has one proof of them all. Assumes nothing.
+use mathlib.Core.Bool.{true, false}
+use mathlib.Core.List.{List, [], _∷_}
+use lib.IntN.{pos, negsuc}
+use Rattle.pooling.specs.Blocks.{increasing, decreasing}
+use Rattle.samples.specs.Rows.{Sample, measures, logarithm, fit, mass, verdict, block, AllHold}
+
+abbrev pub guards : List Sample
+guards =
+    -- an intensity bin is 15 wide, and its lower end belongs to it
+    measures 14 0 0 0 2 45 false
+    ∷ measures 15 0 0 1 2 45 false
+    -- the largest measures
+    ∷ measures 255 255 255 51 0 0 true
+    -- a full turn ends below 360°
+    ∷ measures 101 200 1 20 28 59 false
+    -- bits of the logarithm are cut off, not rounded
+    ∷ logarithm 1 0
+    ∷ logarithm 2 16777216
+    ∷ logarithm 3 26591258
+    ∷ logarithm 4294967295 536870911
+    -- a mean is a sum and a length, not a whole number
+    ∷ fit increasing (2 ∷ 1 ∷ []) (block 3 2 ∷ block 3 2 ∷ [])
+    -- equal means share a block
+    ∷ fit increasing (2 ∷ 2 ∷ []) (block 4 2 ∷ block 4 2 ∷ [])
+    ∷ fit decreasing (2 ∷ 2 ∷ []) (block 4 2 ∷ block 4 2 ∷ [])
+    -- after a merge the fit looks further back
+    ∷ fit increasing (1 ∷ 2 ∷ 3 ∷ 0 ∷ []) (block 1 1 ∷ block 5 3 ∷ block 5 3 ∷ block 5 3 ∷ [])
+    -- a decreasing fit is the mirror image
+    ∷ fit decreasing (0 ∷ 3 ∷ 2 ∷ 1 ∷ []) (block 5 3 ∷ block 5 3 ∷ block 5 3 ∷ block 1 1 ∷ [])
+    -- in one block B is its length, not that times itself
+    ∷ mass increasing (4 ∷ 2 ∷ 1 ∷ []) 0 1 14 3
+    -- across blocks B is the product of the two lengths, not their least common multiple
+    ∷ mass increasing (4 ∷ 3 ∷ 1 ∷ 10 ∷ 9 ∷ 0 ∷ []) 1 4 162 9
+    ∷ verdict 0 increasing (4 ∷ 3 ∷ 1 ∷ 10 ∷ 9 ∷ 0 ∷ []) (pos 101004434) true
+    -- every part is tested, not only the whole stretch
+    ∷ verdict 0 increasing (20 ∷ 0 ∷ []) (pos 308953062) true
+    -- a cost of exactly 0 rejects
+    ∷ verdict 0 increasing (0 ∷ 0 ∷ 2 ∷ 0 ∷ 0 ∷ 0 ∷ 0 ∷ 0 ∷ []) (pos 0) true
+    -- the closeness raises the bar by a bit each
+    ∷ verdict 1 increasing (0 ∷ 0 ∷ 2 ∷ 0 ∷ 0 ∷ 0 ∷ 0 ∷ 0 ∷ []) (negsuc 16777215) false
+    -- a stretch that goes the tested way costs minus the bar
+    ∷ verdict 0 increasing (1 ∷ 2 ∷ 2 ∷ []) (negsuc 43368473) false
+    -- a stretch of one bin is never rejected, whatever its cost
+    ∷ verdict 0 increasing (5 ∷ []) (pos 0) false
+    ∷ []
+
+-- proved in proofs/Tables
+abbrev pub GuardsHold : Type 0
+GuardsHold = AllHold guards

@@ -1,0 +1,27 @@
+-- Document 01, 'Samples': the table of those with * that speak of pixels and fits. proofs/Tables has one proof of all its rows. Assumes nothing.
+use mathlib.Core.Bool.{true, false}
+use mathlib.Core.List.{List, [], _∷_}
+use Rattle.pooling.specs.Blocks.{increasing}
+use Rattle.samples.specs.Rows.{Sample, chroma, measures, fit, block, AllHold}
+
+abbrev pub starred : List Sample
+starred =
+    -- 'Q: (13,9,0) gives 133, grey; (13,10,0) gives 139, coloured'
+    chroma 13 9 0 133
+    ∷ measures 13 9 0 1 1 0 true
+    ∷ chroma 13 10 0 139
+    ∷ measures 13 10 0 1 1 52 false
+    -- 'Hue: green 5, blue 25, red 45 at full 255; (100,0,200) 30; (100,200,0) 0'
+    ∷ measures 0 255 0 17 41 5 false
+    ∷ measures 0 0 255 17 41 25 false
+    ∷ measures 255 0 0 17 41 45 false
+    ∷ measures 100 0 200 20 28 30 false
+    ∷ measures 100 200 0 20 28 0 false
+    -- '3,1,2 increasing pools to one block of 2; 1,3,2 to 1, 5/2, 5/2'
+    ∷ fit increasing (3 ∷ 1 ∷ 2 ∷ []) (block 6 3 ∷ block 6 3 ∷ block 6 3 ∷ [])
+    ∷ fit increasing (1 ∷ 3 ∷ 2 ∷ []) (block 1 1 ∷ block 5 2 ∷ block 5 2 ∷ [])
+    ∷ []
+
+-- proved in proofs/Tables
+abbrev pub StarredHold : Type 0
+StarredHold = AllHold starred

@@ -1,0 +1,138 @@
+// Document 01's samples of pixels, fits and verdicts, as the public calls answer them. The starred ones are also proved, from the
+// table in specs/; the others are only run here, and what is printed is compared with the file stdout.
+use kistrovu::kistrovu_fit;
+use kistrovu::kistrovu_measures;
+use kistrovu::kistrovu_verdict;
+
+fn text(bytes: &[u8]) {
+    io::write_all(1, bytes);
+}
+
+fn number(n: u64) {
+    io::write_all(1, b" ");
+    io::print_decimal(1, n);
+}
+
+// A signed number. Its size is taken one nearer to zero first, so that the least number has one too.
+fn signed(x: i64) {
+    if x < 0 {
+        io::write_all(1, b" -");
+        io::print_decimal(1, (0 - (x + 1)) as u64 + 1);
+    } else {
+        number(x as u64);
+    }
+}
+
+fn flag(on: bool) {
+    if on { number(1) } else { number(0) }
+}
+
+fn counts(h: &[u32]) {
+    let mut i = 0;
+    while i < h.len() {
+        number(h[i] as u64);
+        i += 1;
+    }
+}
+
+fn measures(red: u8, green: u8, blue: u8) {
+    let m = kistrovu_measures(red, green, blue);
+    text(b"pixel");
+    number(red as u64);
+    number(green as u64);
+    number(blue as u64);
+    text(b": number");
+    number(m.number as u64);
+    text(b", intensity");
+    number(m.measures.intensity as u64);
+    text(b", saturation");
+    number(m.measures.saturation as u64);
+    text(b", hue");
+    number(m.measures.hue as u64);
+    text(b", grey");
+    flag(m.measures.grey);
+    text(b"\n");
+}
+
+// The first of an answer's 256 places.
+fn places(figures: [u32; 256], first: usize) {
+    let mut i = 0;
+    while i < first && i < 256 {
+        number(figures[i] as u64);
+        i += 1;
+    }
+}
+
+// A fit, with one place past its last bin.
+fn fit(h: &[u32], rising: bool) {
+    let f = kistrovu_fit(h, rising);
+    let sums = f.sums;
+    let lengths = f.lengths;
+    text(b"fit of");
+    counts(h);
+    text(b", increasing");
+    flag(rising);
+    text(b": number");
+    number(f.number as u64);
+    text(b", block sums");
+    places(sums, 4);
+    text(b", lengths");
+    places(lengths, 4);
+    text(b"\n");
+}
+
+fn verdict(h: &[u32], rising: bool, closeness: u32) {
+    let v = kistrovu_verdict(h, rising, closeness);
+    text(b" bins, increasing");
+    flag(rising);
+    text(b", closeness");
+    number(closeness as u64);
+    text(b": number");
+    number(v.number as u64);
+    text(b", cost");
+    signed(v.verdict.cost);
+    text(b", rejected");
+    flag(v.verdict.rejected);
+    text(b"\n");
+}
+
+fn named(h: &[u32], rising: bool, closeness: u32) {
+    text(b"verdict of");
+    counts(h);
+    text(b":");
+    number(h.len() as u64);
+    verdict(h, rising, closeness);
+}
+
+fn unnamed(what: &[u8], h: &[u32], rising: bool, closeness: u32) {
+    text(b"verdict of ");
+    text(what);
+    text(b":");
+    number(h.len() as u64);
+    verdict(h, rising, closeness);
+}
+
+fn starred() {
+    measures(13, 9, 0);
+    measures(13, 10, 0);
+    measures(0, 255, 0);
+    measures(0, 0, 255);
+    measures(255, 0, 0);
+    measures(100, 0, 200);
+    measures(100, 200, 0);
+    fit(&[3, 1, 2], true);
+    fit(&[1, 3, 2], true);
+}
+
+fn main() {
+    starred();
+    named(&[0, 20, 0, 20, 0], true, 0);
+    named(&[0, 20, 0, 20, 0], false, 20);
+    named(&[0, 20, 0, 20, 0], true, 21);
+    unnamed(b"zeros", &[0u32; 256], true, 0);
+    unnamed(b"zeros", &[0u32; 257], true, 0);
+    unnamed(b"one bin", &[5], true, 0);
+    unnamed(b"a sum of 65,536", &[256u32; 256], true, 20);
+    unnamed(b"a sum of 65,537", &[65536, 1], true, 0);
+    unnamed(b"counts of 4,294,967,295", &[4294967295u32; 256], false, 0);
+}

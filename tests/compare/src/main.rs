@@ -1,0 +1,152 @@
+//! Compares the engine, through its static library, with the reference.
+//!
+//! In `tests/`, after `rt staticlib kistrovu` at the repository's root:
+//!
+//!     cargo run --release -p compare -- [--seed S] [--count N] [--only measures|fits|verdicts]
+//!
+//! KISTROVU_LIB names another folder to take `libkistrovu.a` from. Without arguments the run is the same every time:
+//! all pixels, the listed histograms, and `COUNT` drawn ones. Each group prints a line; at a difference the group
+//! ends with the input and both answers. The last line is the number of groups passed and failed, and the exit code
+//! is 1 if one failed.
+
+mod comparison;
+mod groups;
+mod random;
+mod shapes;
+mod ties;
+
+use comparison::{Calls, Difference, Tally};
+use groups::{Source, GROUPS};
+use random::Random;
+use std::process::ExitCode;
+
+const SEED: u64 = 1;
+const COUNT: usize = 100_000;
+const USAGE: &str = "usage: compare [--seed S] [--count N] [--only measures|fits|verdicts]";
+
+struct Options {
+    seed: u64,
+    count: usize,
+    calls: Calls,
+}
+
+fn main() -> ExitCode {
+    let options = match options(std::env::args().skip(1)) {
+        Ok(options) => options,
+        Err(wrong) => {
+            eprintln!("{wrong}\n{USAGE}");
+            return ExitCode::from(2);
+        }
+    };
+    let (passed, failed) = run(&options);
+    println!("{passed} passed, {failed} failed");
+    ExitCode::from(u8::from(failed > 0))
+}
+
+fn options(mut words: impl Iterator<Item = String>) -> Result<Options, String> {
+    let all = Calls {
+        measures: true,
+        fits: true,
+        verdicts: true,
+    };
+    let none = Calls {
+        measures: false,
+        fits: false,
+        verdicts: false,
+    };
+    let mut options = Options {
+        seed: SEED,
+        count: COUNT,
+        calls: all,
+    };
+    while let Some(word) = words.next() {
+        let value = words.next().ok_or(format!("{word} wants a value"))?;
+        let number = || {
+            value
+                .parse::<u64>()
+                .map_err(|_| format!("{value} is not a number"))
+        };
+        match (word.as_str(), value.as_str()) {
+            ("--seed", _) => options.seed = number()?,
+            ("--count", _) => options.count = number()? as usize,
+            ("--only", "measures") => {
+                options.calls = Calls {
+                    measures: true,
+                    ..none
+                }
+            }
+            ("--only", "fits") => options.calls = Calls { fits: true, ..none },
+            ("--only", "verdicts") => {
+                options.calls = Calls {
+                    verdicts: true,
+                    ..none
+                }
+            }
+            _ => return Err(format!("unknown: {word} {value}")),
+        }
+    }
+    Ok(options)
+}
+
+/// How many groups passed and failed.
+fn run(options: &Options) -> (usize, usize) {
+    let (mut passed, mut failed) = (0, 0);
+    let mut note = |name: &str, tally: Tally, outcome: Result<(), Difference>| {
+        match outcome {
+            Ok(()) => passed += 1,
+            Err(_) => failed += 1,
+        }
+        report(name, &tally, outcome.err());
+    };
+    println!("seed {}, {} drawn histograms", options.seed, options.count);
+    if options.calls.measures {
+        let mut tally = Tally::default();
+        let outcome = comparison::every_pixel(&mut tally);
+        note("measures of every pixel", tally, outcome);
+    }
+    if options.calls.fits || options.calls.verdicts {
+        for (index, (name, source)) in GROUPS.iter().enumerate() {
+            let mut tally = Tally::default();
+            let outcome = compare_group(source, index, options, &mut tally);
+            note(name, tally, outcome);
+        }
+    }
+    (passed, failed)
+}
+
+/// Each group draws from a stream of its own, so that a change of one leaves the others as they were.
+fn compare_group(
+    source: &Source,
+    index: usize,
+    options: &Options,
+    tally: &mut Tally,
+) -> Result<(), Difference> {
+    let mut random = Random::new(Random::new(options.seed).next() ^ index as u64);
+    let cases = source.cases(&mut random, options.count);
+    cases
+        .iter()
+        .try_for_each(|case| comparison::case(case, options.calls, tally))
+}
+
+fn report(name: &str, tally: &Tally, difference: Option<Difference>) {
+    let compared = if tally.measures > 0 {
+        format!("{} pixels, {} grey", tally.measures, tally.grey)
+    } else {
+        format!(
+            "{} histograms, {} fits, {} verdicts, {} served, {} turned down, {} rejected",
+            tally.histograms,
+            tally.fits,
+            tally.verdicts,
+            tally.served,
+            tally.turned_down,
+            tally.rejected
+        )
+    };
+    let outcome = if difference.is_some() { "FAILED" } else { "ok" };
+    println!("{outcome:6} {name}: {compared}");
+    if let Some(difference) = difference {
+        println!("  {}", difference.input);
+        println!("  reference: {}", difference.reference);
+        println!("  engine:    {}", difference.engine);
+    }
+}
