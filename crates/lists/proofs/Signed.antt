@@ -1,13 +1,13 @@
 -- The order of signed numbers, differences of natural ones, and the largest of several values. Assumes nothing.
 use Prim.Native.Nat.{ℕ, zero, suc, _+_, _-_, _≤_, _<_}
-use mathlib.Core.Path.{_≡_, refl, sym, ap, _∙_}
-use mathlib.Core.Bool.{Bool, true, false, cond, false≢true}
-use lib.Dec.{T, ltb, leb, le→leb, leb→le}
-use lib.IntN.{ℤ, pos, negsuc, subℕ}
-use lib.Signed.{ltZ, leZ, _≤ℤ_, ≤ℤ-refl, ltZ-no}
+use mathlib.Core.Path.{_≡_, refl, ap}
+use mathlib.Core.Bool.{true, false, cond, false≢true}
+use lib.Dec.{T, ltb, le→leb, leb→le}
+use lib.IntN.{ℤ, pos, negsuc, subℕ, _-ℤ_}
+use lib.Signed.{ltZ, leZ, mag, _≤ℤ_, ≤ℤ-refl, ltZ-no}
 use native.Mathlib.Omega.{arith}
 use native.Mathlib.Nat.{le-trans}
-use borrow.Author.Tests.{ltb-true, ltb-false}
+use borrow.Author.Tests.{ltb-true, le-ltb}
 use Rattle.lists.specs.Lists.{largest}
 use Rattle.lists.proofs.Cases.{by-cond, last-or}
 
@@ -35,6 +35,14 @@ lt-le-ℤ a b h = record { le = go a b h }
 
 pub nlt-le-ℤ : (a b : ℤ) → ltZ a b ≡ false → b ≤ℤ a
 nlt-le-ℤ a b h = ltZ-no (rw h tt)
+
+-- ---- the difference of two natural numbers: as `subℕ` has it, and how large it is
+pub difference-is : (a b : ℕ) → pos a -ℤ pos b ≡ subℕ a b
+difference-is a zero = simp (le-ltb a 0 (omega arith)) (ap pos (omega arith))
+difference-is a (suc b) = refl
+
+pub difference-below : (a b c : ℕ) → a < c → b < c → mag (subℕ a b) < c
+difference-below a b c h k = by-cond (λ (z : ℤ). mag z < c) (ltb a b) (negsuc (b - suc a)) (pos (a - b)) (λ e. omega arith) (λ e. omega arith)
 
 -- ---- the largest of f 0, .., f n is one of them, and none is above it
 pub largest-is : (n : ℕ) (f : ℕ → ℤ) → (i : ℕ) × (i ≤ n) × (largest n f ≡ f i)

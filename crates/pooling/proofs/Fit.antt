@@ -7,17 +7,18 @@ use lib.Dec.{ltb, le→leb}
 use borrow.Author.Tests.{ltb-false}
 use lib.IntN.{ℤ, pos, negsuc, subℕ, _+ℤ_, _-ℤ_}
 use lib.Signed.{≤ℤ-refl}
-use lib.ListN.{length, replicate, getD, length-append, length-replicate, length-map, List·getD-map}
+use lib.ListN.{length, replicate, getD, length-map, List·getD-map}
 use Rattle.pooling.specs.Blocks.{Block, increasing, Strict, StrictFrom}
 use Rattle.pooling.proofs.Leading.{Full}
 use Rattle.pooling.specs.Fraction.{Fraction, _≤Q_, Proper, Ordered, OrderedFrom, CommonDenominator, times, sumℤ, sq, squares, scaled, error}
-use Rattle.pooling.specs.Best.{mean, at, Best}
+use Rattle.pooling.specs.Best.{mean, at, CutInto, Best}
 use Rattle.lists.specs.Lists.{total}
 use Rattle.lists.proofs.Cases.{by-cond}
-use Rattle.lists.proofs.Sums.{total-append}
-use Rattle.lists.proofs.Repeats.{map-replicate-append, total-replicate}
-use Rattle.pooling.proofs.Heavy.{Cut, done, seg, Rises}
+use Rattle.lists.proofs.Repeats.{map-replicate-append}
+use Rattle.pooling.proofs.Heavy.{Cut, Rises, forms-cut}
+use Rattle.pooling.proofs.Cuts.{cut-full}
 use Rattle.pooling.proofs.Gap.{levels, Splits, cut-far}
+use Rattle.pooling.proofs.Levels.{levels-length, levels-total}
 use Rattle.pooling.proofs.Scale.{divides, same-of-times, grows-times}
 
 -- the means, block by block
@@ -25,16 +26,7 @@ abbrev pub fit : List Block → List Fraction
 fit [] = []
 fit (b ∷ bs) = replicate (b .len) (mean b) ++ fit bs
 
-pub cut-full : {h : List ℕ} {bs : List Block} → Cut h bs → Full bs
-cut-full done = tt
-cut-full (seg p k) = (p .some, cut-full k)
-
--- ---- length, denominators, order
-fit-long : {h : List ℕ} {bs : List Block} → Cut h bs → length (fit bs) ≡ length h
-fit-long done = refl
-fit-long (seg {x = x} {h = h} {b = b} {bs = bs} p k) =
-    omega (arith, fit-long k, length-append (replicate (b .len) (mean b)) (fit bs), length-replicate (b .len) (mean b), length-append x h, p .long)
-
+-- ---- denominators, order
 proper-many : (n : ℕ) (y : Fraction) (ys : List Fraction) → 0 < y .den → Proper ys → Proper (replicate n y ++ ys)
 proper-many zero y ys h k = k
 proper-many (suc n) y ys h k = (h, proper-many n y ys h k)
@@ -74,6 +66,9 @@ fit-levels D (b ∷ bs) =
     map-replicate-append (times D) (b .len) (mean b) (fit bs) ∙ ap (λ (z : List ℤ). replicate (b .len) (times D (mean b)) ++ z) (fit-levels D bs)
     ∙ sym (map-replicate-append pos (b .len) (b .sum * (D / b .len)) (levels D bs))
 
+fit-length : {h : List ℕ} {bs : List Block} → CutInto h bs → length (fit bs) ≡ length h
+fit-length {bs = bs} c = sym (length-map (fit bs) (times 1)) ∙ ap length (fit-levels 1 bs) ∙ length-map (levels 1 bs) pos ∙ levels-length 1 c
+
 multiple-rest : (D n : ℕ) (y : Fraction) (ys : List Fraction) → CommonDenominator D (replicate n y ++ ys) → CommonDenominator D ys
 multiple-rest D zero y ys m = m
 multiple-rest D (suc n) y ys m = multiple-rest D n y ys (m .1)
@@ -90,19 +85,6 @@ fit-splits D (b ∷ bs) w m = (multiple-first D (b .len) (mean b) (fit bs) (w .0
 pub sum-levels : (fs : List ℕ) → sumℤ (map pos fs) ≡ pos (total fs)
 sum-levels [] = refl
 sum-levels (f ∷ fs) = ap (λ z. pos f +ℤ z) (sum-levels fs)
-
-total-levels : (D : ℕ) {h : List ℕ} {bs : List Block} → Cut h bs → Splits D bs → total (levels D bs) ≡ total h * D
-total-levels D done w = omega arith
-total-levels D (seg {x = x} {h = h} {b = b} {bs = bs} p k) w =
-    omega (
-      arith,
-      total-levels D k (w .1),
-      total-append (replicate (b .len) (b .sum * (D / b .len))) (levels D bs),
-      total-replicate (b .len) (b .sum * (D / b .len)),
-      ap (λ (z : ℕ). z * D) (total-append x h),
-      ap (λ (z : ℕ). z * D) (p .sums),
-      ap (λ (z : ℕ). b .sum * z) (w .0),
-    )
 
 -- ---- a difference in one place
 square-pos : (k : ℕ) → 0 < k → 0 < k * k
@@ -149,20 +131,22 @@ farther D some k w (z ∷ zs) hl m r =
     cut-far D k w (times D z) (map (times D) (z ∷ zs)) (ap suc (length-map zs (times D)) ∙ hl) (≤ℤ-refl (times D z), grows-times D some z zs (divides D (z .den) (m .0)) (m .1) r)
 
 pub rises-best : (h : List ℕ) (bs : List Block) → Rises h bs → Best increasing h (fit bs)
-rises-best h bs k = record {
-  sameLength = fit-long (k .cut);
-  positive = fit-proper bs (cut-full (k .cut));
-  monotone = fit-rises bs (cut-full (k .cut)) (k .rising);
-  sameTotal = λ D some m.
-      ap sumℤ (fit-levels D bs) ∙ sum-levels (levels D bs) ∙ ap pos (total-levels D (k .cut) (fit-splits D bs (cut-full (k .cut)) m));
-  leastError = λ y hl py ry i hi differ D some mf my.
-      let w : Splits D bs = fit-splits D bs (cut-full (k .cut)) mf in
-      let far : squares (scaled D h) (map pos (levels D bs)) + squares (levels D bs) (map (times D) y) ≤ error D h y = farther D some (k .cut) w y hl my ry in
-      let e : error D h (fit bs) ≡ squares (scaled D h) (map pos (levels D bs)) = ap (λ (z : List ℤ). squares (scaled D h) z) (fit-levels D bs) in
-      let il : i < length (levels D bs) = omega (arith, fit-long (k .cut), ap length (fit-levels D bs), length-map (fit bs) (times D), length-map (levels D bs) pos) in
-      let iy : i < length (map (times D) y) = omega (arith, length-map y (times D)) in
-      let apart : ¬ (getD (map pos (levels D bs)) i (times D zeroth) ≡ getD (map (times D) y) i (times D zeroth)) =
-      λ c. differ (same-of-times D (at (fit bs) i) (at y i) some (multiple-at D (fit bs) i (omega (arith, fit-long (k .cut))) mf) (multiple-at D y i (omega arith) my)
-      (sym (times-at D (fit bs) i) ∙ ap (λ (z : List ℤ). getD z i (times D zeroth)) (fit-levels D bs) ∙ c ∙ times-at D y i)) in
-      omega (arith, squares-pos (levels D bs) (map (times D) y) i (times D zeroth) il iy apart);
-}
+rises-best h bs k =
+    let c = forms-cut (k .cut) in
+    record {
+      sameLength = fit-length c;
+      positive = fit-proper bs (cut-full c);
+      monotone = fit-rises bs (cut-full c) (k .rising);
+      sameTotal = λ D some m.
+          ap sumℤ (fit-levels D bs) ∙ sum-levels (levels D bs) ∙ ap pos (levels-total D c (fit-splits D bs (cut-full c) m));
+      leastError = λ y hl py ry i hi differ D some mf my.
+          let w : Splits D bs = fit-splits D bs (cut-full c) mf in
+          let far : squares (scaled D h) (map pos (levels D bs)) + squares (levels D bs) (map (times D) y) ≤ error D h y = farther D some (k .cut) w y hl my ry in
+          let m : error D h (fit bs) ≡ squares (scaled D h) (map pos (levels D bs)) = ap (λ (z : List ℤ). squares (scaled D h) z) (fit-levels D bs) in
+          let il : i < length (levels D bs) = omega (arith, levels-length D c) in
+          let iy : i < length (map (times D) y) = omega (arith, length-map y (times D)) in
+          let apart : ¬ (getD (map pos (levels D bs)) i (times D zeroth) ≡ getD (map (times D) y) i (times D zeroth)) =
+          λ e. differ (same-of-times D (at (fit bs) i) (at y i) some (multiple-at D (fit bs) i (omega (arith, fit-length c)) mf) (multiple-at D y i (omega arith) my)
+          (sym (times-at D (fit bs) i) ∙ ap (λ (z : List ℤ). getD z i (times D zeroth)) (fit-levels D bs) ∙ e ∙ times-at D y i)) in
+          omega (arith, squares-pos (levels D bs) (map (times D) y) i (times D zeroth) il iy apart);
+    }

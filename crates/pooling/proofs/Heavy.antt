@@ -8,7 +8,8 @@ use native.Mathlib.Omega.{arith}
 use borrow.Author.Tests.{ltb-true, ltb-false}
 use lib.ListN.{length, length-append}
 use Rattle.pooling.specs.Blocks.{Block, increasing, below, merged, Strict}
-use Rattle.pooling.proofs.Leading.{lead, blocksFromLast, strict-tail}
+use Rattle.pooling.specs.Best.{CutInto, empty, first}
+use Rattle.pooling.proofs.Leading.{lead, blocksFromLast, strict-tail, block-eq}
 use Rattle.lists.specs.Lists.{total}
 use Rattle.lists.proofs.Cases.{by-cond}
 use Rattle.lists.proofs.Sums.{total-append}
@@ -29,6 +30,11 @@ pub record Forms (xs : List ℕ) (b : Block) : Type 0 where
 pub data Cut : List ℕ → List Block → Type 0 where
   done : Cut [] []
   seg : {x h : List ℕ} {b : Block} {bs : List Block} → Forms x b → Cut h bs → Cut (x ++ h) (b ∷ bs)
+
+pub forms-cut : {h : List ℕ} {bs : List Block} → Cut h bs → CutInto h bs
+forms-cut done = empty
+forms-cut (seg {x = x} {h = h} {b = b} {bs = bs} p k) =
+    subst (λ (c : Block). CutInto (x ++ h) (c ∷ bs)) (block-eq (p .sums) (p .long)) (first x (omega (arith, p .long, p .some)) (forms-cut k))
 
 -- and the means of the blocks rise
 pub record Rises (h : List ℕ) (bs : List Block) : Type 0 where

@@ -1,22 +1,26 @@
 -- The laws of pooling: its blocks give the best sequence, and no other blocks do; from the last bin to the first they are the same; the other way they are
 -- the mirror image's, mirrored. Assumes nothing.
 use mathlib.Core.Path.{_≡_, refl, sym, _∙_, ap, subst}
-use mathlib.Core.List.{List, [], _∷_, _++_, reverse, reverseAux, reverse-reverse, append-assoc, append-nil, reverseAux-append, reverseAux-eq}
+use mathlib.Core.List.{List, [], _∷_, _++_, map, reverse, reverseAux, reverse-reverse, append-assoc, append-nil, reverseAux-append, reverseAux-eq}
 use Prim.Native.Nat.{ℕ}
+use lib.IntN.{pos}
 use native.Mathlib.Nat.{add-comm}
 use native.Mathlib.Omega.{arith}
 use borrow.Author.Tests.{ltb-true, ltb-false}
 use lib.ListN.{length, replicate, length-reverse}
 use Rattle.pooling.specs.Blocks.{Block, Direction, increasing, decreasing, below, stepsTo, StepsTo, merged, push, pushAll, blocks, Strict, StrictFrom, spread}
 use Rattle.pooling.proofs.Leading.{turn, Full, lead, blocksFromLast, strict-tail, block-eq}
-use Rattle.pooling.specs.Fraction.{Fraction}
+use Rattle.pooling.specs.Fraction.{Fraction, CommonDenominator, times, sumℤ, sumOf}
 use Rattle.pooling.specs.Best.{mean, means, CutInto, empty, first, Best}
-use Rattle.lists.specs.Lists.{total}
+use Rattle.lists.specs.Lists.{total, part}
 use Rattle.lists.proofs.Cases.{by-cond}
+use Rattle.lists.proofs.Parts.{part-map}
 use Rattle.lists.proofs.Repeats.{map-replicate-append}
 use Rattle.lists.proofs.Reversal.{total-reverse}
-use Rattle.pooling.proofs.Heavy.{Forms, Cut, done, seg, Rises, forms-join, single}
-use Rattle.pooling.proofs.Fit.{fit, rises-best}
+use Rattle.pooling.proofs.Heavy.{Forms, Cut, done, seg, Rises, forms-cut, forms-join, single}
+use Rattle.pooling.proofs.Cuts.{cut-full}
+use Rattle.pooling.proofs.Gap.{levels, Splits}
+use Rattle.pooling.proofs.Fit.{fit, fit-levels, fit-splits, sum-levels, rises-best}
 use Rattle.pooling.proofs.Unique.{last-unique, rises-unique}
 use Rattle.pooling.proofs.Mirror.{fit-back, mirror-best}
 
@@ -109,11 +113,21 @@ blocks-from-last decreasing h =
 pub blocks-mirror : (w : Direction) (h : List ℕ) → blocks (turn w) h ≡ reverse (blocks w (reverse h))
 blocks-mirror w h = sym (blocks-from-last (turn w) h) ∙ sym (reverse-reverse (blocksFromLast (turn w) h)) ∙ ap (λ (p : List Block). reverse p) (sym (mirror-last w h))
 
--- ---- the fit is best
+-- ---- the means of blocks
 pub means-fit : (bs : List Block) → means bs ≡ fit bs
 means-fit [] = refl
 means-fit (b ∷ bs) = map-replicate-append mean (b .len) b (spread bs) ∙ ap (λ (z : List Fraction). replicate (b .len) (mean b) ++ z) (means-fit bs)
 
+pub means-splits : {h : List ℕ} {bs : List Block} → CutInto h bs → (D : ℕ) → CommonDenominator D (means bs) → Splits D bs
+means-splits {bs = bs} c D m = fit-splits D bs (cut-full c) (rw means-fit at m)
+
+-- the means of a part, summed
+pub means-part : (D : ℕ) (bs : List Block) (i j : ℕ) → sumOf D (part i j (means bs)) ≡ pos (total (part i j (levels D bs)))
+means-part D bs i j =
+    ap sumℤ (sym (part-map (times D) i j (means bs)) ∙ ap (part i j) (ap (map (times D)) (means-fit bs) ∙ fit-levels D bs) ∙ part-map pos i j (levels D bs))
+    ∙ sum-levels (part i j (levels D bs))
+
+-- ---- the fit is best
 best-fit : (w : Direction) (h : List ℕ) → Best w h (fit (blocks w h))
 best-fit increasing h = rises-best h (blocks increasing h) (blocks-rise h)
 best-fit decreasing h =
@@ -143,11 +157,6 @@ pub blocks-unique : (w : Direction) (h : List ℕ) (cs : List Block) → Full cs
 blocks-unique w h cs p s k = unique-fit w h cs p s (subst (λ (z : List Fraction). Best w h z) (means-fit cs) k) ∙ blocks-from-last w h
 
 -- ---- the blocks cut the bins, each has its bins' sum and number, and their means go strictly one way
-cut-stretches : {h : List ℕ} {bs : List Block} → Cut h bs → CutInto h bs
-cut-stretches done = empty
-cut-stretches (seg {x = x} {h = h} {b = b} {bs = bs} p k) =
-    subst (λ (c : Block). CutInto (x ++ h) (c ∷ bs)) (block-eq (p .sums) (p .long)) (first x (omega (arith, p .long, p .some)) (cut-stretches k))
-
 reversed : (x : List ℕ) → _≡_ {A = Block} (record { sum = total (reverse x); len = length (reverse x) }) (record { sum = total x; len = length x })
 reversed x = block-eq (total-reverse x) (length-reverse x)
 
@@ -159,11 +168,11 @@ stretches-back {g = g} {cs = cs} (first x {h = h} {bs = bs} some s) k =
     (subst (λ (c : Block). CutInto (reverse x ++ g) (c ∷ cs)) (reversed x) (first (reverse x) (omega (arith, length-reverse x)) k)))
 
 pub blocks-cut : (w : Direction) (h : List ℕ) → CutInto h (blocks w h)
-blocks-cut increasing h = cut-stretches (blocks-rise h .cut)
+blocks-cut increasing h = forms-cut (blocks-rise h .cut)
 blocks-cut decreasing h =
     subst (λ (z : List Block). CutInto h z) (sym (blocks-mirror increasing h))
     (subst (λ (z : List ℕ). CutInto z (reverse (blocks increasing (reverse h)))) (reverse-reverse h)
-    (stretches-back (cut-stretches (blocks-rise (reverse h) .cut)) empty))
+    (stretches-back (forms-cut (blocks-rise (reverse h) .cut)) empty))
 
 pub blocks-strict : (w : Direction) (h : List ℕ) → Strict w (blocks w h)
 blocks-strict increasing h = blocks-rise h .rising

@@ -1,6 +1,8 @@
 pub mod Leading
 pub mod Heavy
+pub mod Cuts
 pub mod Gap
+pub mod Levels
 pub mod Scale
 pub mod Fit
 pub mod Unique

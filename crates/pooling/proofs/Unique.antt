@@ -10,8 +10,9 @@ use Rattle.pooling.specs.Blocks.{Block, Direction, increasing, Strict, S
 use Rattle.pooling.proofs.Leading.{Full, blocksFromLast, strict-tail, block-eq}
 use Rattle.pooling.specs.Fraction.{Fraction, _≈_, Proper, CommonDenominator, error}
 use Rattle.pooling.specs.Best.{mean, at, Best}
-use Rattle.pooling.proofs.Heavy.{Rises, last-rises}
-use Rattle.pooling.proofs.Fit.{fit, cut-full, rises-best}
+use Rattle.pooling.proofs.Heavy.{Rises, forms-cut, last-rises}
+use Rattle.pooling.proofs.Cuts.{cut-full}
+use Rattle.pooling.proofs.Fit.{fit, rises-best}
 
 -- ---- the product of the denominators is a multiple of each
 abbrev pub product : List Fraction → ℕ
@@ -123,8 +124,8 @@ pub last-unique : (h : List ℕ) (cs : List Block) → Full cs → Strict increa
 last-unique h cs w r k =
     let p = last-rises h in
     let best = rises-best h (blocksFromLast increasing h) p in
-    blocks-same cs (blocksFromLast increasing h) w (cut-full (p .cut)) r (p .rising)
+    blocks-same cs (blocksFromLast increasing h) w (cut-full (forms-cut (p .cut))) r (p .rising)
     (same-at (fit cs) (fit (blocksFromLast increasing h)) (k .sameLength ∙ sym (best .sameLength)) (λ i hi. values-unique increasing h (fit cs) (fit (blocksFromLast increasing h)) k best i (omega (arith, k .sameLength))))
 
 pub rises-unique : (h : List ℕ) (cs : List Block) → Rises h cs → cs ≡ blocksFromLast increasing h
-rises-unique h cs k = last-unique h cs (cut-full (k .cut)) (k .rising) (rises-best h cs k)
+rises-unique h cs k = last-unique h cs (cut-full (forms-cut (k .cut))) (k .rising) (rises-best h cs k)

@@ -1,35 +1,31 @@
 -- 'Exactness': a rejected stretch has a part above the bar less 2N+2 units, and every part of an accepted one is below the bar plus 2N units.
 -- Each logarithm is off by less than 2 units, and a weight has N of them on either side. Assumes nothing.
 use Prim.Native.Nat.{ℕ, zero, suc, _+_, _*_, _-_, _/_, _^_, _≤_, _<_}
-use mathlib.Core.Path.{_≡_, refl, sym, ap, _∙_}
+use mathlib.Core.Path.{_≡_, sym, ap, _∙_}
 use mathlib.Core.Bool.{Bool, true, false, _&&_}
 use mathlib.Core.List.{List}
 use lib.Dec.{leb}
 use lib.ListN.{length}
 use lib.IntN.{ℤ, pos}
-use lib.Signed.{leZ, _≤ℤ_}
+use lib.Signed.{leZ}
 use lib.Pow.{pow-add, pow-pos, pow-mono, pow-lt}
 use native.Mathlib.Omega.{arith}
-use native.Mathlib.Nat.{mul-comm, mul-le-mul, mul-le-mul-left, mul-le-mul-right, mul-lt-mul-of-pos-right, mul-pos, le-trans, le-of-eq, le-of-lt, lt-of-le-of-lt, lt-of-lt-of-le, pow-zero, zero-mul, pow-le-pow-left}
+use native.Mathlib.Nat.{mul-comm, mul-le-mul, mul-le-mul-left, mul-le-mul-right, mul-lt-mul-of-pos-right, le-trans, le-of-eq, le-of-lt, lt-of-le-of-lt, lt-of-lt-of-le, pow-zero, zero-mul, pow-le-pow-left}
 use borrow.Author.Tests.{leb-true, leb-false, le-leb}
-use Rattle.lists.specs.Lists.{total, part, largest}
+use Rattle.lists.specs.Lists.{total, part}
 use Rattle.lists.proofs.Powers.{mul-pow, pow-pow, pow-swap}
-use Rattle.lists.proofs.Thresholds.{less-bar, difference-reaches}
-use Rattle.lists.proofs.Signed.{le-trans-ℤ, largest-is, largest-above}
+use Rattle.lists.proofs.Thresholds.{less-bar, difference-reaches, below-misses}
 use Rattle.logarithm.specs.Log.{unitsPerBit, lg}
 use Rattle.logarithm.specs.Bounds.{Bounded}
 use Rattle.logarithm.proofs.Within.{always-bounded}
-use Rattle.pooling.specs.declared.Block.{Block}
 use Rattle.pooling.specs.Blocks.{Direction, blocks}
 use Rattle.verdict.specs.declared.Mass.{Mass}
 use Rattle.verdict.specs.Test.{Closeness, fittedMass, weight, partWeight, bar, largestWeight, cost, rejected}
 use Rattle.verdict.specs.Exactness.{observed, expected, exactBar, InRange, partX, partBar, Exact}
+use Rattle.verdict.proofs.Terms.{observedLog, expectedLog, Ranged, counted, massed, remaining, parts-range}
+use Rattle.verdict.proofs.Largest.{largest-part, part-largest}
 
--- ---- a power of x against the factor times the logarithm; x is in the logarithm's range where its factor is not 0
-record Ranged (k x : ℕ) : Type 0 where
-  some : 0 < k → 0 < x
-  below : x < 2 ^ 32
-
+-- ---- a power of x against the factor times the logarithm
 -- at factor 0 both sides are 1
 none : (x : ℕ) → (x ^ 0) ^ unitsPerBit ≡ 1
 none x = pow-swap x 0 unitsPerBit ∙ pow-zero (x ^ unitsPerBit)
@@ -66,42 +62,22 @@ module _ (n k x y : ℕ) (fits : k ≤ n) (first : Ranged k x) (rest : Ranged (n
       gathered : (a b : ℕ) → a + 2 * k + (b + 2 * (n - k)) ≡ a + b + 2 * n
       gathered a b = omega arith
 
--- the logarithms of X and of Y in a weight
-abbrev observedLog : ℕ → ℕ → Mass → ℕ
-observedLog n k m = k * lg (k * m .den) + (n - k) * lg ((n - k) * m .den)
-
-abbrev expectedLog : ℕ → ℕ → Mass → ℕ
-expectedLog n k m = k * lg (m .num) + (n - k) * lg (n * m .den - m .num)
-
 module _ (n k : ℕ) (m : Mass) (r : InRange n k m) where
-  -- k of the n counts times the block length
-  counted : (j : ℕ) → j ≤ n → Ranged j (j * m .den)
-  counted j l = record { some = λ p. mul-pos p (r .positive); below = lt-of-le-of-lt (mul-le-mul-right (m .den) l) (r .below) }
-
-  massed : Ranged k (m .num)
-  massed = record { some = r .someMass; below = lt-of-le-of-lt (r .within) (r .below) }
-
-  remaining : Ranged (n - k) (n * m .den - m .num)
-  remaining = record { some = λ p. positive (r .someRest (omega arith)); below = lt-of-le-of-lt (omega arith) (r .below) }
-    where
-      positive : m .num < n * m .den → 0 < n * m .den - m .num
-      positive h = omega arith
-
   observed-low : 2 ^ observedLog n k m ≤ observed n k m ^ unitsPerBit
   unfolding observed
-  observed-low = pair-low n k (k * m .den) ((n - k) * m .den) (r .partial) (counted k (r .partial)) (counted (n - k) (omega arith))
+  observed-low = pair-low n k (k * m .den) ((n - k) * m .den) (r .partial) (counted n k m r k (r .partial)) (counted n k m r (n - k) (omega arith))
 
   observed-high : observed n k m ^ unitsPerBit ≤ 2 ^ (observedLog n k m + 2 * n)
   unfolding observed
-  observed-high = pair-high n k (k * m .den) ((n - k) * m .den) (r .partial) (counted k (r .partial)) (counted (n - k) (omega arith))
+  observed-high = pair-high n k (k * m .den) ((n - k) * m .den) (r .partial) (counted n k m r k (r .partial)) (counted n k m r (n - k) (omega arith))
 
   expected-low : 2 ^ expectedLog n k m ≤ expected n k m ^ unitsPerBit
   unfolding expected
-  expected-low = pair-low n k (m .num) (n * m .den - m .num) (r .partial) massed remaining
+  expected-low = pair-low n k (m .num) (n * m .den - m .num) (r .partial) (massed n k m r) (remaining n k m r)
 
   expected-high : expected n k m ^ unitsPerBit ≤ 2 ^ (expectedLog n k m + 2 * n)
   unfolding expected
-  expected-high = pair-high n k (m .num) (n * m .den - m .num) (r .partial) massed remaining
+  expected-high = pair-high n k (m .num) (n * m .den - m .num) (r .partial) (massed n k m r) (remaining n k m r)
 
 weight-reaches : (t n k : ℕ) (m : Mass) → leZ (pos t) (weight n k m) ≡ leb (expectedLog n k m + t) (observedLog n k m)
 unfolding weight
@@ -110,19 +86,7 @@ weight-reaches t n k m = difference-reaches t (observedLog n k m) (expectedLog n
 -- ---- the bar; l bins have l(l+1)/2 parts, within the logarithm's range
 module _ (e l : ℕ) (least : 2 ≤ l) (most : l ≤ 257) where
   parts-bounded : Bounded (l * suc l / 2)
-  parts-bounded = always-bounded (l * suc l / 2) (low (mul-le-mul least up)) (high (mul-le-mul most top))
-    where
-      up : 3 ≤ suc l
-      up = omega arith
-
-      top : suc l ≤ 258
-      top = omega arith
-
-      low : {p : ℕ} → 2 * 3 ≤ p → 1 ≤ p / 2
-      low h = omega arith
-
-      high : {p : ℕ} → p ≤ 257 * 258 → p / 2 < 2 ^ 32
-      high h = omega arith
+  parts-bounded = let r = parts-range l (omega arith) most in always-bounded (l * suc l / 2) (r .some) (r .below)
 
   split : exactBar e l ^ unitsPerBit ≡ 2 ^ (e * unitsPerBit) * (l * suc l / 2) ^ unitsPerBit
   unfolding exactBar
@@ -180,34 +144,7 @@ module _ (e l n k : ℕ) (m : Mass) (least : 2 ≤ l) (most : l ≤ 257) (r : In
       (leb-false (expectedLog n k m + bar e l) (observedLog n k m) (sym (weight-reaches (bar e l) n k m) ∙ q))
       (observed-high n k m r) (expected-low n k m r) (bar-low e l least most))
 
--- ---- the largest weight is that of some part, and no part's is above it
-module _ (h : List ℕ) (bs : List Block) where
-  largest-part : 0 < length h → (i : ℕ) × (j : ℕ) × (i ≤ j) × (j < length h) × (largestWeight h bs ≡ partWeight h bs i j)
-  unfolding largestWeight
-  largest-part some =
-      let outer = largest-is (length h - 1) (λ j. largest j (λ i. partWeight h bs i j)) in
-      let j = outer .0 in
-      let inner = largest-is j (λ i. partWeight h bs i j) in
-      (inner .0, j, inner .1, inside (outer .1), outer .2 ∙ inner .2)
-    where
-      inside : {j : ℕ} → j ≤ length h - 1 → j < length h
-      inside l = omega arith
-
-  part-largest : (i j : ℕ) → i ≤ j → j < length h → partWeight h bs i j ≤ℤ largestWeight h bs
-  unfolding largestWeight
-  part-largest i j k l =
-      le-trans-ℤ (partWeight h bs i j) (largest j (λ i. partWeight h bs i j)) (largestWeight h bs)
-      (largest-above j (λ i. partWeight h bs i j) i k)
-      (largest-above (length h - 1) (λ j. largest j (λ i. partWeight h bs i j)) j (omega arith))
-
--- what is below a number that misses the bar misses it too
-misses : (t a b : ℤ) → a ≤ℤ b → leZ t b ≡ false → leZ t a ≡ false
-misses t a b h k = go (leZ t a) refl
-  where
-    go : (x : Bool) → leZ t a ≡ x → x ≡ false
-    go false e = refl
-    go true e = absurd (rw k at (le-trans-ℤ t a b (record { le = rw e tt }) h .le))
-
+-- ---- the stretch: its largest weight reaches the bar, or does not
 rejected-is : (e : Closeness) (w : Direction) (h : List ℕ) → 2 ≤ length h → rejected e w h ≡ leZ (pos (bar e (length h))) (largestWeight h (blocks w h))
 unfolding rejected cost
 rejected-is e w h least =
@@ -232,6 +169,6 @@ exact e w h least most ranges =
           );
       acceptance = λ q i j k l. record {
         below = weight-below e (length h) (total h) (total (part i j h)) (fittedMass h (blocks w h) i j) least most (ranges i j k l)
-            (misses (pos (bar e (length h))) (partWeight h (blocks w h) i j) (largestWeight h (blocks w h)) (part-largest h (blocks w h) i j k l) (sym (rejected-is e w h least) ∙ q));
+            (below-misses (pos (bar e (length h))) (partWeight h (blocks w h) i j) (largestWeight h (blocks w h)) (part-largest h (blocks w h) i j k l) (sym (rejected-is e w h least) ∙ q));
       };
     }

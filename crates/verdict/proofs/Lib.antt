@@ -1,10 +1,10 @@
 pub mod Machine
-mod Running
+mod Terms
+mod Largest
 pub mod Masses
-mod Spots
-mod Held
-mod Sizes
+mod Tables
 pub mod Range
+mod Sizes
 pub mod Monotone
 pub mod Band
 pub mod Sound

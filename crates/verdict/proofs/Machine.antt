@@ -1,28 +1,17 @@
 -- Signed numbers as the machine holds them: a difference of two natural ones, and the test of two signed ones. Assumes nothing.
-use mathlib.Core.Path.{_≡_, refl, sym, ap, _∙_}
-use mathlib.Core.Bool.{Bool, true, false, cond}
-use Prim.Native.Nat.{ℕ, zero, suc, _+_, _-_, _^_, _≤_, _<_}
-use native.Mathlib.Nat.{add-zero}
+use mathlib.Core.Path.{_≡_, sym, ap, _∙_}
+use mathlib.Core.Bool.{Bool}
+use Prim.Native.Nat.{ℕ, zero, suc, _^_, _<_}
 use native.Mathlib.Omega.{arith}
-use lib.Dec.{ltb}
 use lib.IntN.{ℤ, pos, negsuc, subℕ, _-ℤ_}
 use lib.Signed.{ltZ, mag}
 use mir.Syntax.{w64}
 use mir.Val.{SFits, toZ, ofZ}
 use mir.ValLaws.{toZ-pos, toZ-ofZ}
-use borrow.Author.Tests.{ltb-true, ltb-false, le-ltb}
-
--- the difference of two natural numbers, as `subℕ` has it
-pub difference-is : (a b : ℕ) → pos a -ℤ pos b ≡ subℕ a b
-difference-is a zero = simp (le-ltb a 0 (omega arith)) (ap pos (omega arith))
-difference-is a (suc b) = refl
+use Rattle.lists.proofs.Signed.{difference-is, difference-below}
 
 pub difference-fits : (a b : ℕ) → a < 2 ^ 63 → b < 2 ^ 63 → SFits w64 (subℕ a b)
-difference-fits a b h k = go (ltb a b)
-  where
-    go : (t : Bool) → SFits w64 (cond t (negsuc (b - suc a)) (pos (a - b)))
-    go true = record { sfits = omega arith }
-    go false = record { sfits = omega arith }
+difference-fits a b h k = record { sfits = difference-below a b (2 ^ 63) h k }
 
 -- the machine's difference of two numbers below 2 ^ 63
 pub machine-difference : (a b : ℕ) → a < 2 ^ 63 → b < 2 ^ 63 → toZ w64 a -ℤ toZ w64 b ≡ subℕ a b

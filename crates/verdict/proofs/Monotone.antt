@@ -1,42 +1,28 @@
 -- A stretch that already goes the tested way is its own best fit: every weight is 0, and its cost is minus the bar. Assumes nothing.
-use Prim.Native.Nat.{ℕ, zero, suc, _+_, _*_, _-_, _/_, _≤_, _<_}
+use Prim.Native.Nat.{ℕ, zero, suc, _+_, _*_, _/_, _≤_, _<_}
 use mathlib.Core.Path.{_≡_, refl, sym, ap, _∙_, subst}
 use mathlib.Core.List.{List, [], _∷_, map}
 use native.Mathlib.Omega.{arith}
 use native.Mathlib.Numerals.{add-one}
 use native.Mathlib.Nat.{div-one, mod-one, eq-of-mul-eq-mul-right}
-use borrow.Author.Tests.{le-ltb}
 use lib.Dec.{le→leb}
-use lib.IntN.{ℤ, pos, negℤ, natAbs, subℕ, _-ℤ_, ℤ-discrete, +ℤ-idl, +ℤ-invr}
+use lib.IntN.{ℤ, pos, negℤ, natAbs, _-ℤ_, ℤ-discrete, +ℤ-idl, +ℤ-invr}
 use lib.ListN.{length, take, getD, length-map, List·getD-map}
 use Rattle.lists.specs.Lists.{total, part}
 use Rattle.lists.proofs.Sums.{total-part, total-part-le, total-more}
-use Rattle.lists.proofs.Parts.{largest-constant}
-use Rattle.logarithm.specs.Log.{lg}
 use Rattle.pooling.specs.Blocks.{Direction, increasing, decreasing, blocks, spread}
-use Rattle.pooling.specs.Fraction.{Fraction, _≈_, Proper, Ordered, OrderedFrom, Follows, CommonDenominator, times, sq, error}
+use Rattle.pooling.specs.Fraction.{Fraction, _≈_, Proper, Ordered, OrderedFrom, Follows, CommonDenominator, sq, error}
 use Rattle.pooling.specs.Best.{mean, means, at}
 use Rattle.pooling.proofs.Gap.{levels, Splits}
+use Rattle.pooling.proofs.Levels.{upTo, up-to-more, begins-splits}
+use Rattle.pooling.proofs.Places.{nowhere, place-block}
 use Rattle.pooling.proofs.Laws.{blocks-cut, fit-best}
-use Rattle.pooling.proofs.Always.{denominator-exists}
-use Rattle.verdict.specs.declared.Mass.{Mass}
-use Rattle.verdict.specs.Test.{Closeness, placeOf, fittedMass, weight, partWeight, bar, largestWeight, cost}
+use Rattle.pooling.proofs.Always.{denominator-exists, blocks-split}
+use Rattle.verdict.specs.Test.{Closeness, placeOf, fittedMass, partWeight, bar, cost}
 use Rattle.verdict.specs.Exactness.{InOrder, Monotone}
-use Rattle.verdict.proofs.Masses.{upTo, up-to-more, Stands, place-stands, mass-levels, means-splits}
-
--- ---- a weight of 0
-sub-self-ℤ : (x : ℕ) → subℕ x x ≡ pos 0
-sub-self-ℤ x =
-    let z : x - x ≡ 0 = omega arith in
-    rw (le-ltb x x (omega arith)) (ap pos z)
-
--- where the fitted mass is the count, A = kB
-pub weight-zero : (n k : ℕ) (m : Mass) → m .num ≡ k * m .den → k ≤ n → weight n k m ≡ pos 0
-unfolding weight
-weight-zero n k m e l =
-    let d : (n - k) + k ≡ n = omega arith in
-    let r : n * m .den - m .num ≡ (n - k) * m .den = omega (arith, ap (λ (z : ℕ). z * m .den) d) in
-    rw (r, e) (sub-self-ℤ (k * lg (k * m .den) + (n - k) * lg ((n - k) * m .den)))
+use Rattle.verdict.proofs.Terms.{weight-zero}
+use Rattle.verdict.proofs.Masses.{bin-place, mass-levels}
+use Rattle.verdict.proofs.Largest.{largest-part}
 
 -- ---- the counts as fractions
 abbrev counts : List ℕ → List Fraction
@@ -88,10 +74,10 @@ mean-count w h m i l = go (ℤ-discrete _ _)
 
 -- the sum of a block is its length times the count of each of its bins
 sum-count : (w : Direction) (h : List ℕ) → Monotone w h → (i : ℕ) → i < length h → placeOf (blocks w h) i .block .sum ≡ getD h i 0 * placeOf (blocks w h) i .block .len
+unfolding placeOf
 sum-count w h m i l =
     let b = placeOf (blocks w h) i .block in
-    let P = place-stands (blocks-cut w h) i l in
-    let e : at (means (blocks w h)) i ≡ mean b = List·getD-map mean (spread (blocks w h)) i (record { sum = 0; len = 1 }) ∙ ap mean (P .spreads) in
+    let e : at (means (blocks w h)) i ≡ mean b = List·getD-map mean (spread (blocks w h)) i (nowhere .block) ∙ ap mean (place-block (blocks w h) i) in
     let f : mean b ≈ record { num = pos (getD h i 0); den = 1 } =
     subst (λ (z : Fraction). mean b ≈ z) (count-at h i) (subst (λ (z : Fraction). z ≈ at (counts h) i) e (mean-count w h m i l)) in
     omega (arith, ap natAbs f)
@@ -104,8 +90,8 @@ module _ (w : Direction) (h : List ℕ) (m : Monotone w h) where
   level-count : (D : ℕ) → Splits D (blocks w h) → (i : ℕ) → i < length h → upTo D (blocks w h) (suc i) ≡ upTo D (blocks w h) i + D * getD h i 0
   level-count D v i l =
       let b = placeOf (blocks w h) i .block in
-      let P : Stands h (blocks w h) i (placeOf (blocks w h) i) = place-stands (blocks-cut w h) i l in
-      bin-level D (D / b .len) (b .len) (b .sum) (getD h i 0) _ _ (P .level D v .split) (sum-count w h m i l) (up-to-more P D v)
+      let P = bin-place (blocks-cut w h) i l in
+      bin-level D (D / b .len) (b .len) (b .sum) (getD h i 0) _ _ (begins-splits (P .begins) v) (sum-count w h m i l) (up-to-more D P v)
 
   levels-counts : (D : ℕ) → Splits D (blocks w h) → (i : ℕ) → i ≤ length h → upTo D (blocks w h) i ≡ D * total (take i h)
   levels-counts D v zero l = omega arith
@@ -119,9 +105,7 @@ module _ (w : Direction) (h : List ℕ) (m : Monotone w h) where
 
   -- the fitted mass of a part is its count
   pub mass-count : (i j : ℕ) → i ≤ j → j < length h → fittedMass h (blocks w h) i j .num ≡ total (part i j h) * fittedMass h (blocks w h) i j .den
-  mass-count i j o l =
-      let one = denominator-exists (means (blocks w h)) (fit-best w h .positive) in
-      over (one .0) (one .1) (means-splits (blocks-cut w h) (one .0) (one .2))
+  mass-count i j o l = let s = blocks-split w h in over (s .0) (s .1) (s .2)
     where
       over : (D : ℕ) → 0 < D → Splits D (blocks w h) → fittedMass h (blocks w h) i j .num ≡ total (part i j h) * fittedMass h (blocks w h) i j .den
       over D some v =
@@ -142,8 +126,7 @@ module _ (w : Direction) (h : List ℕ) (m : Monotone w h) where
       weight-zero (total h) (total (part i j h)) (fittedMass h (blocks w h) i j) (mass-count i j o l) (total-part-le i j h (omega arith))
 
   pub monotone-cost : (e : Closeness) → 1 ≤ length h → cost e w h ≡ negℤ (pos (bar e (length h)))
-  unfolding cost largestWeight
+  unfolding cost
   monotone-cost e some =
-      ap (λ (z : ℤ). z -ℤ pos (bar e (length h)))
-      (largest-constant (length h - 1) _ (pos 0) (λ j l. largest-constant j _ (pos 0) (λ i o. part-weight-zero i j o (omega arith))))
-      ∙ +ℤ-idl _
+      let found = largest-part h (blocks w h) some in
+      ap (λ (z : ℤ). z -ℤ pos (bar e (length h))) (found .4 ∙ part-weight-zero (found .0) (found .1) (found .2) (found .3)) ∙ +ℤ-idl _

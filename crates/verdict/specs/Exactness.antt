@@ -81,7 +81,7 @@ module _ (e : Closeness) (w : Direction) (h : List ℕ) where
     pub exact : 2 ≤ length h → Exact
     pub monotone : 1 ≤ length h → Monotone w h → cost e w h ≡ negℤ (pos (bar e (length h)))
 
--- to be proved. A ring of up to 256 bins and 65,536 counts with its lowest bin repeated has up to 257 bins and 98,304 counts (two equal bins become three);
+-- proved in proofs/Sound. A ring of up to 256 bins and 65,536 counts with its lowest bin repeated has up to 257 bins and 98,304 counts (two equal bins become three);
 -- then NB is at most 98,304 · 128 · 129, within the logarithm's range
 abbrev pub VerdictAlwaysSound : Type 0
 VerdictAlwaysSound = (e : Closeness) (w : Direction) (h : List ℕ) → length h ≤ 257 → total h ≤ 98304 → VerdictSound e w h

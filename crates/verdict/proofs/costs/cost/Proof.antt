@@ -5,7 +5,7 @@ use lib.ListN.{length}
 use Rattle.pooling.specs.Blocks.{direction}
 use Rattle.verdict.specs.Test.{cost}
 use Rattle.verdict.proofs.Machine.{handed-back}
-use Rattle.verdict.proofs.Held.{places-held}
+use Rattle.verdict.proofs.Tables.{places-held}
 use Rattle.verdict.proofs.Sizes.{bar-small, largest-small}
 use borrow.Author.Needs.{needs}
 use Rattle.verdict.proofs.costs.cost.Statement.{statement}
@@ -26,14 +26,22 @@ slice-aggregate-fit-places-3 c = search needs
 fit-places-requires : tie.Need-fit-places-requires
 fit-places-requires c κs = search needs
 
+-- from the call of `largest_weight` back to the fit, and from there to the function's entry
+abbrev fit : tie.After-lens3 → tie.After-fit-places
+fit c = c .before .before .before .before .before .before .before
+
+abbrev entry : tie.After-fit-places → tie.Start
+entry c = c .before .before .before .before .before .before .before
+
 largest-weight-requires : tie.Need-largest-weight-requires
 largest-weight-requires c κs =
-    let s = c .before .before .before .before .before .before .before .before .before .before .before .before .before .before in
-    let f = c .before .before .before .before .before .before .before .fit-places in (
+    let f = fit c in
+    let s = entry f in
+    let e = f .fit-places .ensures in (
       record {
         small = s .pre .0;
-        running = c .before .before .before .before .before .before .before .before .before .before .before .running-totals .ensures;
-        places = places-held (direction (s .args .rising)) (s .args .h .now) _ _ _ _ _ _ (f .ensures .0) (f .ensures .1 .0) (f .ensures .1 .1);
+        running = f .before .before .before .before .running-totals .ensures;
+        places = places-held (direction (s .args .rising)) (s .args .h .now) _ _ _ _ _ _ (e .0) (e .1 .0) (e .1 .1);
       },
       s .pre .1 .0,
     )
@@ -43,7 +51,7 @@ bar-requires c κs = search needs
 
 less-requires : tie.Need-less-requires
 less-requires c κs =
-    let s = c .before .before .before .before .before .before .before .before .before .before .before .before .before .before .before .before in (
+    let s = entry (fit (c .before .before)) in (
       rw (handed-back (c .before .largest-weight .ok), c .before .largest-weight .ensures)
           (largest-small (direction (s .args .rising)) (s .args .h .now) (s .pre .1 .0) (s .pre .0 .bins) (s .pre .0 .counts)),
       rw (c .bar .ensures) (omega (arith, bar-small (s .args .closeness) (length (s .args .h .now)) (s .pre .1 .1) (s .pre .1 .0) (s .pre .0 .bins))),

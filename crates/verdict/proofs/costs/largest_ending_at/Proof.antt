@@ -1,9 +1,9 @@
 -- `largest_ending_at` meets its contract. The loop's invariant: the best so far is the largest of the parts passed. Assumes nothing.
-use mathlib.Core.Path.{_≡_, refl, sym, ap, _∙_}
-use Prim.Native.Nat.{ℕ, _+_, _-_, _≤_}
+use mathlib.Core.Path.{_≡_, sym, _∙_}
+use Prim.Native.Nat.{_+_, _-_, _≤_}
 use native.Mathlib.Omega.{arith}
 use mir.Syntax.{w64}
-use mir.Val.{toZ, ofZ}
+use mir.Val.{toZ}
 use borrow.Author.Needs.{needs}
 use Rattle.lists.specs.Lists.{largest}
 use Rattle.lists.proofs.Signed.{largest-first, largest-more}

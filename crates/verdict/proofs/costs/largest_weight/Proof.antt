@@ -1,6 +1,6 @@
 -- `largest_weight` meets its contract. The loop's invariant: the best so far is the largest of the parts that end at the bins passed. Assumes nothing.
 use mathlib.Core.Path.{_≡_, sym, _∙_}
-use Prim.Native.Nat.{ℕ, _-_, _≤_}
+use Prim.Native.Nat.{_-_, _≤_}
 use native.Mathlib.Omega.{arith}
 use mir.Syntax.{w64}
 use mir.Val.{toZ}

@@ -7,7 +7,7 @@ use Rattle.lists.specs.Lists.{total, part}
 use Rattle.pooling.specs.Blocks.{direction}
 use Rattle.verdict.specs.Test.{partWeight}
 use Rattle.verdict.proofs.Machine.{handed-back}
-use Rattle.verdict.proofs.Running.{running-all, running-part}
+use Rattle.verdict.proofs.Tables.{running-all, running-part}
 use Rattle.verdict.proofs.Range.{in-range}
 use borrow.Author.Needs.{needs}
 use Rattle.verdict.proofs.costs.part_weight.Statement.{statement}
@@ -50,7 +50,7 @@ wide-requires-2 c κs = search needs
 part-mass-requires : tie.Need-part-mass-requires
 part-mass-requires c κs = search needs
 
--- the three figures, at the call of `weight`
+-- two figures, at the call of `weight`
 all : (c : tie.After-part-mass) → c .before .before .before .before .wide .result ≡ total (c .before .before .before .before .before .before .before .args .h .now)
 all c = let s = c .before .before .before .before .before .before .before in c .before .before .before .before .wide .ensures ∙ running-all (s .args .h .now) (s .args .before .now) (s .pre .0 .running)
 

@@ -1,13 +1,13 @@
 -- `mass_across` meets its contract: the counts between are a difference of running totals. Assumes nothing.
-use mathlib.Core.Path.{_≡_, refl, sym, ap, _∙_}
-use Prim.Native.Nat.{ℕ, suc, _+_, _*_, _-_, _≤_}
+use mathlib.Core.Path.{_≡_, refl, _∙_}
+use Prim.Native.Nat.{_+_, _-_}
 use native.Mathlib.Numerals.{add-one}
 use native.Mathlib.Omega.{arith}
-use lib.ListN.{length, getD, take, drop}
+use lib.ListN.{getD, take, drop}
 use Rattle.lists.specs.Lists.{total}
 use Rattle.lists.proofs.Sums.{total-take-le}
 use Rattle.verdict.specs.Test.{massAcross}
-use Rattle.verdict.proofs.Running.{between}
+use Rattle.verdict.proofs.Tables.{running-between}
 use borrow.Author.Needs.{needs}
 use Rattle.verdict.proofs.parts.mass_across.Statement.{statement}
 use Rattle.verdict.proofs.parts.mass_across.Tie as tie
@@ -32,7 +32,7 @@ counts : (s : tie.Start) → getD (s .args .before .now) (s .args .q .start) 0
     ≡ getD (s .args .before .now) (s .args .p .start + s .args .p .block .len) 0
     + total (take (s .args .q .start - (s .args .p .start + s .args .p .block .len)) (drop (s .args .p .start + s .args .p .block .len) (s .args .h .now)))
 counts s =
-    between (s .args .h .now) (s .args .before .now) (s .args .p .start + s .args .p .block .len) (s .args .q .start) (s .pre .1 .1 .apart) (omega (arith, s .pre .1 .1)) (s .pre .1 .0)
+    running-between (s .args .h .now) (s .args .before .now) (s .args .p .start + s .args .p .block .len) (s .args .q .start) (s .pre .1 .1 .apart) (omega (arith, s .pre .1 .1)) (s .pre .1 .0)
 
 sub-wide : tie.Need-sub-wide
 sub-wide c = omega (arith, counts (c .before .before .before .before))

@@ -3,7 +3,7 @@ use mathlib.Core.Path.{_∙_}
 use native.Mathlib.Omega.{arith}
 use borrow.Author.Needs.{needs}
 use Rattle.pooling.specs.Blocks.{direction}
-use Rattle.verdict.proofs.Spots.{spot-sum-le, spots-same, spots-apart, spots-across}
+use Rattle.verdict.proofs.Tables.{spot-sum-le, spots-same, spots-apart, spots-across}
 use Rattle.verdict.proofs.parts.part_mass.Statement.{statement}
 use Rattle.verdict.proofs.parts.part_mass.Tie as tie
 
@@ -15,33 +15,37 @@ place-at-requires-2 c κs = search needs
 
 mass-within-requires : tie.Need-mass-within-requires
 mass-within-requires c κs =
-    let s = c .before .before .before .before .before .before in
-    omega (arith, spot-sum-le (direction (s .args .rising)) (s .args .h .now) (s .args .i) (c .before .before .before .before .place-at .result) (c .before .before .before .before .place-at .ensures) (omega arith), s .pre .0 .small)
+    let ends = c .before .before .before in
+    let s = ends .before .before .before in
+    omega (arith, spot-sum-le (direction (s .args .rising)) (s .args .h .now) (s .args .i) (ends .before .place-at .result) (ends .before .place-at .ensures) (omega arith), s .pre .0 .small)
 
 mass-across-requires : tie.Need-mass-across-requires
 mass-across-requires c κs =
-    let s = c .before .before .before .before .before .before in (
+    let ends = c .before .before .before in
+    let s = ends .before .before .before in (
       s .pre .0 .small,
       (
         s .pre .0 .running,
-        spots-across (direction (s .args .rising)) (s .args .h .now) (s .args .i) _ (c .before .before .before .before .place-at .ensures)
-            (s .args .j) _ (c .before .before .before .place-at2 .ensures) (s .pre .1 .0) (s .pre .1 .1) (c .if1 .left),
+        spots-across (direction (s .args .rising)) (s .args .h .now) (s .args .i) _ (ends .before .place-at .ensures)
+            (s .args .j) _ (ends .place-at2 .ensures) (s .pre .1 .0) (s .pre .1 .1) (c .if1 .left),
       ),
     )
 
 returns : tie.Need-returns
 returns c =
-    let s = c .before .before .before .before .before .before .before in
+    let ends = c .before .before .before .before in
+    let s = ends .before .before .before in
     c .mass-within .ensures
-    ∙ spots-same (direction (s .args .rising)) (s .args .h .now) (s .args .i) _ (c .before .before .before .before .before .place-at .ensures)
-    (s .args .j) _ (c .before .before .before .before .place-at2 .ensures) (c .before .if1 .taken)
+    ∙ spots-same (direction (s .args .rising)) (s .args .h .now) (s .args .i) _ (ends .before .place-at .ensures)
+    (s .args .j) _ (ends .place-at2 .ensures) (c .before .if1 .taken)
 
 returns-2 : tie.Need-returns-2
 returns-2 c =
-    let s = c .before .before .before .before .before .before .before in
+    let ends = c .before .before .before .before in
+    let s = ends .before .before .before in
     c .mass-across .ensures
-    ∙ spots-apart (direction (s .args .rising)) (s .args .h .now) (s .args .i) _ (c .before .before .before .before .before .place-at .ensures)
-    (s .args .j) _ (c .before .before .before .before .place-at2 .ensures) (c .before .if1 .left)
+    ∙ spots-apart (direction (s .args .rising)) (s .args .h .now) (s .args .i) _ (ends .before .place-at .ensures)
+    (s .args .j) _ (ends .place-at2 .ensures) (c .before .if1 .left)
 
 pub part-mass-spec : {M : Type 1} → statement M
 part-mass-spec =

@@ -1,5 +1,4 @@
 -- `place_at` meets its contract. Assumes nothing.
-use mathlib.Core.Path.{_∙_}
 use borrow.Author.Needs.{needs}
 use Rattle.verdict.proofs.parts.place_at.Statement.{statement}
 use Rattle.verdict.proofs.parts.place_at.Tie as tie

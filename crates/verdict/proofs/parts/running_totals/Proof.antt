@@ -1,12 +1,12 @@
 -- `running_totals` meets its contract. The loop's invariant: the sum is that of the bins passed, and stands behind each of them. Assumes nothing.
-use mathlib.Core.Path.{_≡_, refl, sym, ap, _∙_}
-use Prim.Native.Nat.{ℕ, suc, _+_, _-_, _≤_, _<_}
+use mathlib.Core.Path.{_≡_, refl, sym}
+use Prim.Native.Nat.{_-_, _≤_}
 use native.Mathlib.Omega.{arith}
 use borrow.Author.Needs.{needs}
 use lib.ListN.{length, take, length-set}
 use Rattle.lists.specs.Lists.{total}
 use Rattle.lists.proofs.Sums.{total-more, total-at}
-use Rattle.verdict.proofs.Running.{Filled, filled-none, filled-more}
+use Rattle.verdict.proofs.Tables.{Filled, filled-none, filled-more}
 use Rattle.verdict.proofs.parts.running_totals.Statement.{statement}
 use Rattle.verdict.proofs.parts.running_totals.Tie as tie
 

@@ -1,12 +1,13 @@
 -- `bar` meets its contract. Assumes nothing.
-use mathlib.Core.Path.{_≡_, ap, ap₂, _∙_}
-use Prim.Native.Nat.{ℕ, suc, _+_, _*_, _/_, _<_, _^_}
+use mathlib.Core.Path.{ap, ap₂, _∙_}
+use Prim.Native.Nat.{ℕ, _+_, _*_, _/_}
 use native.Mathlib.Numerals.{add-one}
 use native.Mathlib.Omega.{arith}
 use borrow.Author.Needs.{needs}
 use Rattle.logarithm.specs.Log.{lg}
 use Rattle.verdict.specs.Test.{bar}
-use Rattle.verdict.proofs.Sizes.{closeness-small, bar-small, parts-range}
+use Rattle.verdict.proofs.Terms.{parts-range}
+use Rattle.verdict.proofs.Sizes.{closeness-small, bar-small}
 use Rattle.verdict.proofs.weights.bar.Statement.{statement}
 use Rattle.verdict.proofs.weights.bar.Tie as tie
 
@@ -17,7 +18,7 @@ mul-lg : tie.Need-mul-lg
 mul-lg c = rw add-one (omega (arith, parts-range (c .args .bins) (c .pre .1) (c .pre .2)))
 
 lg-requires : tie.Need-lg-requires
-lg-requires c κs = rw add-one (parts-range (c .args .bins) (c .pre .1) (c .pre .2))
+lg-requires c κs = rw add-one (omega (arith, parts-range (c .args .bins) (c .pre .1) (c .pre .2)))
 
 units-requires : tie.Need-units-requires
 units-requires c κs = omega (arith, closeness-small (c .before .pre .0))

@@ -1,17 +1,20 @@
 -- `weight` meets its contract: every logarithm that is taken has an argument in its range. Assumes nothing.
 use mathlib.Core.Path.{sym, _∙_}
-use Prim.Native.Nat.{_-_, _≤_}
+use Prim.Native.Nat.{ℕ, _*_, _-_, _^_, _≤_, _<_}
 use native.Mathlib.Omega.{arith}
 use borrow.Author.Needs.{needs}
 use Rattle.verdict.specs.Test.{weight}
 use Rattle.verdict.proofs.Machine.{handed-back}
-use Rattle.verdict.proofs.Monotone.{weight-zero}
-use Rattle.verdict.proofs.Sizes.{scaled-below, weight-none, weight-all, logged-none, logged-all, logged-both}
+use Rattle.verdict.proofs.Terms.{weight-zero, weight-none, weight-all, counted, logged-none, logged-all, logged-both}
 use Rattle.verdict.proofs.weights.weight.Statement.{statement}
 use Rattle.verdict.proofs.weights.weight.Tie as tie
 
+-- j of the counts, times the denominator
+scaled : (s : tie.Start) (j : ℕ) → j ≤ s .args .n → j * s .args .m .den < 2 ^ 32
+scaled s j l = counted (s .args .n) (s .args .k) (s .args .m) (s .pre .1) j l .below
+
 mul-if1 : tie.Need-mul-if1
-mul-if1 c = let s = c .before in omega (arith, scaled-below (s .args .n) (s .args .k) (s .args .m) (s .pre .1) (s .args .k) (s .pre .1 .partial))
+mul-if1 c = omega (arith, scaled (c .before) (c .before .args .k) (c .before .pre .1 .partial))
 
 returns : tie.Need-returns
 returns c =
@@ -40,7 +43,7 @@ returns-2 c =
 mul-one-term-3 : tie.Need-mul-one-term-3
 mul-one-term-3 c =
     let s = c .before .before .before .before .before .before in
-    omega (arith, scaled-below (s .args .n) (s .args .k) (s .args .m) (s .pre .1) (s .args .k) (s .pre .1 .partial))
+    omega (arith, scaled s (s .args .k) (s .pre .1 .partial))
 
 one-term-requires-2 : tie.Need-one-term-requires-2
 one-term-requires-2 c κs =
@@ -58,13 +61,12 @@ sub-rest c = search needs
 mul-two-terms : tie.Need-mul-two-terms
 mul-two-terms c =
     let s = c .before .before .before .before .before .before in
-    omega (arith, scaled-below (s .args .n) (s .args .k) (s .args .m) (s .pre .1) (s .args .k) (s .pre .1 .partial))
+    omega (arith, scaled s (s .args .k) (s .pre .1 .partial))
 
 mul-two-terms-2 : tie.Need-mul-two-terms-2
 mul-two-terms-2 c =
     let s = c .before .before .before .before .before .before .before in
-    let l : s .args .n - s .args .k ≤ s .args .n = omega arith in
-    omega (arith, scaled-below (s .args .n) (s .args .k) (s .args .m) (s .pre .1) (s .args .n - s .args .k) l)
+    omega (arith, scaled s (s .args .n - s .args .k) (omega arith))
 
 mul-two-terms-3 : tie.Need-mul-two-terms-3
 mul-two-terms-3 c = search needs
