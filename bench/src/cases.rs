@@ -1,13 +1,16 @@
 //! The histograms that are timed: the same in every run.
 
-/// A name and a histogram. All are judged as increasing.
+/// A name and a histogram. Fits and verdicts are increasing.
 pub struct Case {
     pub name: &'static str,
     pub histogram: Vec<u32>,
 }
 
 const MOST_BINS: usize = 256;
+const SMALLER_BINS: usize = 32;
 const HUE_BINS: usize = 60;
+const INTENSITY_BINS: usize = 52;
+const SATURATION_BINS: usize = 42;
 
 pub fn fits() -> Vec<Case> {
     vec![
@@ -53,6 +56,70 @@ pub fn verdicts() -> Vec<Case> {
             histogram: rise(MOST_BINS),
         },
     ]
+}
+
+/// A line, and a smaller one of the same making that the reference can segment in time.
+pub struct LineCase {
+    pub line: Case,
+    pub smaller: Vec<u32>,
+}
+
+pub fn lines() -> Vec<LineCase> {
+    let whole = |name, make: fn(usize) -> Vec<u32>, bins| LineCase {
+        line: Case {
+            name,
+            histogram: make(bins),
+        },
+        smaller: make(bins),
+    };
+    let long = |name, make: fn(usize) -> Vec<u32>| LineCase {
+        line: Case {
+            name,
+            histogram: make(MOST_BINS),
+        },
+        smaller: make(SMALLER_BINS),
+    };
+    vec![
+        whole("60 bins, noisy cloth", cloth, HUE_BINS),
+        whole("52 bins, noisy cloth", cloth, INTENSITY_BINS),
+        whole("42 bins, noisy cloth", cloth, SATURATION_BINS),
+        long("256 bins, alternating 0, 256", high_alternating),
+        long("256 bins, alternating 0, 1", alternating),
+        long("256 bins, alternating heights", distinct_alternating),
+    ]
+}
+
+/// Four humps with noise, about 18,000 pixels: six to eight segments at first, four modes.
+fn cloth(bins: usize) -> Vec<u32> {
+    let mut noise = Noise(4);
+    let humps = [(10, 6, 5000), (35, 12, 4000), (60, 8, 4000), (85, 10, 3000)];
+    (0..bins)
+        .map(|bin| {
+            let smooth: usize = humps
+                .map(|(middle, width, pixels)| {
+                    let (middle, width) = (middle * bins / 100, width * bins / 100);
+                    let near = width.saturating_sub(bin.abs_diff(middle));
+                    pixels * near / (width * width)
+                })
+                .iter()
+                .sum();
+            smooth as u32 + noise.up_to(smooth as u32 / 4 + 6)
+        })
+        .collect()
+}
+
+fn high_alternating(bins: usize) -> Vec<u32> {
+    (0..bins).map(|bin| 256 * (bin % 2) as u32).collect()
+}
+
+/// Highs and lows by turns, no two highs equal and no two lows, in no order.
+fn distinct_alternating(bins: usize) -> Vec<u32> {
+    let half = bins / 2;
+    // 53 shares no factor with half of the bins, so that every remainder comes once.
+    let height = |bin: usize| 53 * (bin / 2) % half;
+    (0..bins)
+        .map(|bin| (height(bin) + (bin % 2) * (half + half / 2)) as u32)
+        .collect()
 }
 
 fn random(bins: usize) -> Vec<u32> {

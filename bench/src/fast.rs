@@ -1,8 +1,9 @@
-//! The fit and the verdict of a served histogram, written for speed: what a careful Rust program would do. It is held
-//! against the reference before anything is timed.
+//! The fit, the verdict and the modes of a served histogram, written for speed: what a careful Rust program would do.
+//! It is held against the reference before anything is timed.
 
 use reference::calls::MOST_BINS;
-use std::ops::Range;
+use std::convert::Infallible;
+use std::ops::{ControlFlow, Range, RangeInclusive};
 
 const ROUNDS: u32 = 24;
 
@@ -73,7 +74,7 @@ pub fn fit(histogram: &[u32], rising: bool) -> ([u32; MOST_BINS], [u32; MOST_BIN
 }
 
 pub fn verdict(histogram: &[u32], rising: bool, closeness: u32) -> (i64, bool) {
-    let total = histogram.iter().map(|&bin| u64::from(bin)).sum();
+    let total = total(histogram);
     // The whole stretch weighs 0, and so does a part whose fitted mass is its count.
     let mut largest = 0;
     each_part(histogram, rising, |part| {
@@ -81,10 +82,63 @@ pub fn verdict(histogram: &[u32], rising: bool, closeness: u32) -> (i64, bool) {
             largest = largest.max(weight(part, total));
         }
     });
-    let bins = histogram.len() as u64;
-    let bar = lg([bins * (bins + 1) / 2])[0] + (u64::from(closeness) << ROUNDS);
-    let cost = largest - bar as i64;
+    let cost = largest - bar(histogram, closeness);
     (cost, cost >= 0)
+}
+
+/// The cost where that is below the cap, else a number at or above the cap: the search ends at the first part that
+/// brings the cost there. Parts inside one block come first, since the largest weight is most often among them.
+fn capped_cost(
+    histogram: &[u32],
+    rising: bool,
+    closeness: u32,
+    cap: i64,
+    stack: &mut [Block; MOST_BINS],
+) -> i64 {
+    let bar = bar(histogram, closeness);
+    let enough = cap + bar;
+    let mut largest = 0;
+    if largest < enough {
+        let total = total(histogram);
+        let _ = search(histogram, pool(histogram, rising, stack), |part| {
+            if part.mass != part.count * part.over {
+                largest = largest.max(weight(part, total));
+                if largest >= enough {
+                    return ControlFlow::Break(());
+                }
+            }
+            ControlFlow::Continue(())
+        });
+    }
+    largest - bar
+}
+
+#[inline(always)]
+fn search(
+    histogram: &[u32],
+    blocks: &[Block],
+    mut visit: impl FnMut(Part) -> ControlFlow<()>,
+) -> ControlFlow<()> {
+    for block in blocks {
+        for first in block.bins() {
+            inside(histogram, block, first, &mut visit)?;
+        }
+    }
+    for index in 0..blocks.len() {
+        for first in blocks[index].bins() {
+            across(histogram, &blocks[index..], first, &mut visit)?;
+        }
+    }
+    ControlFlow::Continue(())
+}
+
+fn total(histogram: &[u32]) -> u64 {
+    histogram.iter().map(|&bin| u64::from(bin)).sum()
+}
+
+fn bar(histogram: &[u32], closeness: u32) -> i64 {
+    let bins = histogram.len() as u64;
+    (lg([bins * (bins + 1) / 2])[0] + (u64::from(closeness) << ROUNDS)) as i64
 }
 
 /// How many parts there are, and how many of them need no logarithm.
@@ -109,37 +163,64 @@ struct Part {
 fn each_part(histogram: &[u32], rising: bool, mut visit: impl FnMut(Part)) {
     let mut stack = [NO_BLOCK; MOST_BINS];
     let blocks = pool(histogram, rising, &mut stack);
-    for (index, block) in blocks.iter().enumerate() {
-        let (len, sum) = (u64::from(block.len), u64::from(block.sum));
-        let bins = block.bins();
-        for first in bins.clone() {
-            let mut count = 0;
-            let mut mass = 0;
-            for &bin in &histogram[first..bins.end] {
-                count += u64::from(bin);
-                mass += sum;
-                visit(Part {
-                    count,
-                    mass,
-                    over: len,
-                });
-            }
-            // What lies before the last block: the tail of the first one, over its length, and whole blocks.
-            let tail = mass;
-            let mut between = 0;
-            for last in &blocks[index + 1..] {
-                let over = len * u64::from(last.len);
-                let step = len * u64::from(last.sum);
-                let mut mass = tail * u64::from(last.len) + between * over;
-                for &bin in &histogram[last.bins()] {
-                    count += u64::from(bin);
-                    mass += step;
-                    visit(Part { count, mass, over });
-                }
-                between += u64::from(last.sum);
-            }
+    let mut visit = |part| {
+        visit(part);
+        ControlFlow::<Infallible>::Continue(())
+    };
+    for index in 0..blocks.len() {
+        for first in blocks[index].bins() {
+            let _ = inside(histogram, &blocks[index], first, &mut visit);
+            let _ = across(histogram, &blocks[index..], first, &mut visit);
         }
     }
+}
+
+/// The parts from a bin of the block to a bin of the same block, until a visit stops them.
+#[inline(always)]
+fn inside<S>(
+    histogram: &[u32],
+    block: &Block,
+    first: usize,
+    visit: &mut impl FnMut(Part) -> ControlFlow<S>,
+) -> ControlFlow<S> {
+    let over = u64::from(block.len);
+    let mut count = 0;
+    let mut mass = 0;
+    for &bin in &histogram[first..block.bins().end] {
+        count += u64::from(bin);
+        mass += u64::from(block.sum);
+        visit(Part { count, mass, over })?;
+    }
+    ControlFlow::Continue(())
+}
+
+/// The parts from a bin of the first block to a bin of a later one, until a visit stops them.
+#[inline(always)]
+fn across<S>(
+    histogram: &[u32],
+    blocks: &[Block],
+    first: usize,
+    visit: &mut impl FnMut(Part) -> ControlFlow<S>,
+) -> ControlFlow<S> {
+    let block = &blocks[0];
+    let len = u64::from(block.len);
+    // What lies before the last block: the tail of the first one, over its length, and whole blocks.
+    let rest = &histogram[first..block.bins().end];
+    let mut count = total(rest);
+    let tail = rest.len() as u64 * u64::from(block.sum);
+    let mut between = 0;
+    for last in &blocks[1..] {
+        let over = len * u64::from(last.len);
+        let step = len * u64::from(last.sum);
+        let mut mass = tail * u64::from(last.len) + between * over;
+        for &bin in &histogram[last.bins()] {
+            count += u64::from(bin);
+            mass += step;
+            visit(Part { count, mass, over })?;
+        }
+        between += u64::from(last.sum);
+    }
+    ControlFlow::Continue(())
 }
 
 #[inline(always)]
@@ -174,4 +255,112 @@ fn lg<const LANES: usize>(numbers: [u64; LANES]) -> [u64; LANES] {
         }
     }
     bits
+}
+
+/// The segments of a line: one more separator than peaks.
+struct Segments {
+    separators: [usize; MOST_BINS],
+    peaks: [usize; MOST_BINS],
+    count: usize,
+}
+
+/// The run of `len` segments from number `first`, and the peak that is kept when it is joined.
+struct Join {
+    first: usize,
+    len: usize,
+    peak: usize,
+}
+
+/// How many separators there are; they are the first places of the list, which has one for each bin or more.
+pub fn line_modes(histogram: &[u32], closeness: u32, list: &mut [u32]) -> usize {
+    let mut segments = first_segments(histogram);
+    let mut stack = [NO_BLOCK; MOST_BINS];
+    let mut cost = |bins: RangeInclusive<usize>, rising, cap| {
+        capped_cost(&histogram[bins], rising, closeness, cap, &mut stack)
+    };
+    while let Some(join) = segments.next_join(&mut cost) {
+        segments.join(&join);
+    }
+    let separators = &segments.separators[..=segments.count];
+    for (place, &separator) in list.iter_mut().zip(separators) {
+        *place = separator as u32;
+    }
+    separators.len()
+}
+
+/// One walk: a fall, then a rise, makes a separator of the first bin at the bottom.
+fn first_segments(histogram: &[u32]) -> Segments {
+    let mut segments = Segments {
+        separators: [0; MOST_BINS],
+        peaks: [0; MOST_BINS],
+        count: 0,
+    };
+    let mut bottom = None;
+    let mut peak = 0;
+    for bin in 1..histogram.len() {
+        if histogram[bin] < histogram[bin - 1] {
+            bottom = Some(bin);
+        } else if histogram[bin] > histogram[bin - 1] {
+            if let Some(separator) = bottom.take() {
+                segments.push(peak, separator);
+                peak = separator;
+            }
+        }
+        if histogram[bin] > histogram[peak] {
+            peak = bin;
+        }
+    }
+    segments.push(peak, histogram.len() - 1);
+    segments
+}
+
+impl Segments {
+    fn push(&mut self, peak: usize, end: usize) {
+        self.peaks[self.count] = peak;
+        self.count += 1;
+        self.separators[self.count] = end;
+    }
+
+    fn join(&mut self, join: &Join) {
+        let behind = join.first + join.len;
+        self.peaks[join.first] = join.peak;
+        self.peaks.copy_within(behind..self.count, join.first + 1);
+        self.separators
+            .copy_within(behind..=self.count, join.first + 1);
+        self.count -= join.len - 1;
+    }
+
+    fn next_join(
+        &self,
+        cost: &mut impl FnMut(RangeInclusive<usize>, bool, i64) -> i64,
+    ) -> Option<Join> {
+        (2..=self.count).find_map(|len| self.cheapest(len, cost))
+    }
+
+    /// Only a cost below all before it counts, and only a rise that is cheaper than its fall: hence the caps.
+    fn cheapest(
+        &self,
+        len: usize,
+        cost: &mut impl FnMut(RangeInclusive<usize>, bool, i64) -> i64,
+    ) -> Option<Join> {
+        let (separators, peaks) = (&self.separators, &self.peaks);
+        let mut least = 0;
+        let mut found = None;
+        for first in 0..=self.count - len {
+            let last = first + len - 1;
+            let fall = cost(peaks[first]..=separators[last + 1], false, least);
+            if fall < least {
+                least = fall;
+                let peak = peaks[first];
+                found = Some(Join { first, len, peak });
+            }
+            let rise = cost(separators[first]..=peaks[last], true, least);
+            if rise < least {
+                least = rise;
+                let peak = peaks[last];
+                found = Some(Join { first, len, peak });
+            }
+        }
+        found
+    }
 }

@@ -5,30 +5,36 @@
 //!     cargo run --release
 //!
 //! KISTROVU_LIB names another folder to take `libkistrovu.a` from. Both are first held against the reference; a wrong
-//! answer is not timed and ends the run. The two take turns in short rounds, and the figures are medians over the
-//! rounds: times of different runs say little about each other, the ratio of one run does.
+//! answer is not timed and ends the run. Lines that the reference would take too long for are held against it on
+//! smaller lines of the same making, and at full length the engine against the Rust program. The two take turns in
+//! short rounds, and the figures are medians over the rounds: times of different runs say little about each other, the
+//! ratio of one run does.
 
 mod cases;
 mod fast;
 
-use cases::Case;
+use cases::{Case, LineCase};
 use reference::calls::FitAnswer;
 use reference::test::Verdict;
 use std::hint::black_box;
 use std::process::ExitCode;
 use std::time::Instant;
 
-const ROUNDS: usize = 41;
+const MOST_ROUNDS: f64 = 41.0;
+const LEAST_ROUNDS: f64 = 5.0;
 const ROUND_NANOSECONDS: f64 = 4e6;
+/// Calls that take longer than a round get fewer rounds.
+const CASE_NANOSECONDS: f64 = 4e9;
 const CLOSENESS: u32 = 0;
 const RISING: bool = true;
 
 fn main() -> ExitCode {
-    let (fits, verdicts) = (cases::fits(), cases::verdicts());
+    let (fits, verdicts, lines) = (cases::fits(), cases::verdicts(), cases::lines());
     let wrong: Vec<String> = fits
         .iter()
         .filter_map(wrong_fit)
         .chain(verdicts.iter().filter_map(wrong_verdict))
+        .chain(lines.iter().filter_map(wrong_line))
         .collect();
     if !wrong.is_empty() {
         eprintln!("not timed, wrong: {}", wrong.join("; "));
@@ -43,6 +49,9 @@ fn main() -> ExitCode {
     }
     for case in verdicts {
         time_verdict(case);
+    }
+    for case in lines {
+        time_line(case.line);
     }
     ExitCode::SUCCESS
 }
@@ -82,6 +91,48 @@ fn wrong_verdict(case: &Case) -> Option<String> {
     None
 }
 
+/// Several closenesses, though only one is timed.
+fn wrong_line(case: &LineCase) -> Option<String> {
+    let LineCase { line, smaller } = case;
+    for closeness in [CLOSENESS, 7, 20] {
+        let mut list = vec![0; smaller.len()];
+        let expected = reference::calls::line_modes(smaller, closeness, &mut list);
+        list.truncate(expected.separators as usize);
+        if expected.number != 0 || fast_separators(smaller, closeness) != list {
+            return Some(format!(
+                "Rust modes of {}, {} bins",
+                line.name,
+                smaller.len()
+            ));
+        }
+        if engine_separators(smaller, closeness) != list {
+            return Some(format!(
+                "engine's modes of {}, {} bins",
+                line.name,
+                smaller.len()
+            ));
+        }
+    }
+    let same = fast_separators(&line.histogram, CLOSENESS)
+        == engine_separators(&line.histogram, CLOSENESS);
+    (!same).then(|| format!("modes of {}: the two differ", line.name))
+}
+
+fn fast_separators(histogram: &[u32], closeness: u32) -> Vec<u32> {
+    let mut list = vec![0; histogram.len()];
+    let count = fast::line_modes(histogram, closeness, &mut list);
+    list.truncate(count);
+    list
+}
+
+/// None when the call is turned down: a line has two separators or more.
+fn engine_separators(histogram: &[u32], closeness: u32) -> Vec<u32> {
+    let mut list = vec![0; histogram.len()];
+    let answer = engine::line_modes(&mut histogram.to_vec(), closeness, &mut list);
+    list.truncate(answer.separators as usize);
+    list
+}
+
 fn time_fit(case: Case) {
     let mut lent = case.histogram.clone();
     let times = medians(
@@ -115,11 +166,35 @@ fn time_verdict(case: Case) {
     );
 }
 
+fn time_line(case: Case) {
+    let mut lent = case.histogram.clone();
+    let (mut first, mut second) = (vec![0; lent.len()], vec![0; lent.len()]);
+    let times = medians(
+        || {
+            black_box(engine::line_modes(
+                black_box(&mut lent),
+                CLOSENESS,
+                &mut first,
+            ));
+        },
+        || {
+            black_box(fast::line_modes(
+                black_box(&case.histogram),
+                CLOSENESS,
+                &mut second,
+            ));
+        },
+    );
+    print("line", case.name, times, "");
+}
+
 /// Nanoseconds of one call, of the first and of the second, and the ratio: each a median over the rounds.
 fn medians(mut first: impl FnMut(), mut second: impl FnMut()) -> [f64; 3] {
-    let calls = (ROUND_NANOSECONDS / per_call(1, &mut first).max(1.0)).ceil() as u32;
+    let call = per_call(1, &mut first).max(1.0);
+    let calls = (ROUND_NANOSECONDS / call).ceil() as u32;
+    let rounds = (CASE_NANOSECONDS / call).clamp(LEAST_ROUNDS, MOST_ROUNDS) as usize;
     let mut figures = [const { Vec::new() }; 3];
-    for _ in 0..ROUNDS {
+    for _ in 0..rounds {
         let (a, b) = (per_call(calls, &mut first), per_call(calls, &mut second));
         for (list, figure) in figures.iter_mut().zip([a, b, a / b]) {
             list.push(figure);
@@ -127,7 +202,7 @@ fn medians(mut first: impl FnMut(), mut second: impl FnMut()) -> [f64; 3] {
     }
     figures.map(|mut list| {
         list.sort_unstable_by(f64::total_cmp);
-        list[ROUNDS / 2]
+        list[rounds / 2]
     })
 }
 

@@ -1,2 +1,3 @@
 pub mod Served
 mod Fits
+mod Modes

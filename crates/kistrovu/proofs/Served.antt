@@ -6,10 +6,11 @@ use mathlib.Core.List.{List, [], _∷_, _++_}
 use lib.Dec.{ltb}
 use lib.ListN.{length}
 use native.Mathlib.Omega.{arith}
+use native.Mathlib.Decide.{ℕ-discrete}
 use borrow.Author.Tests.{ltb-false}
 use Rattle.lists.specs.Lists.{total}
 use Rattle.verdict.specs.Test.{Closeness, mostCloseness}
-use Rattle.kistrovu.specs.Grounds.{Ground, firstGround, badLength, largeSum, badCloseness, fitNumber, verdictNumber}
+use Rattle.kistrovu.specs.Grounds.{Ground, firstGround, badLength, largeSum, badCloseness, fewPlaces, fitNumber, verdictNumber, modesNumber}
 
 -- ---- grounds in sequence
 pub ground-holds : (g : Ground) (gs : List Ground) → g .holds ≡ true → firstGround (g ∷ gs) ≡ g .number
@@ -83,3 +84,19 @@ module _ (e : Closeness) (h : List ℕ) where
       let b = ground-none (largeSum h) (badCloseness e ∷ []) (omega arith) (a .1) in
       let c = ground-none (badCloseness e) [] (omega arith) (b .1) in
       (ground-passes (badLength h) (largeSum h ∷ []) (a .0) ∙ ground-passes (largeSum h) [] (b .0), ltb-false _ _ (c .0))
+
+module _ (e : Closeness) (h : List ℕ) (places : ℕ) where
+  pub modes-turned-down : ¬ (verdictNumber e h ≡ 0) → modesNumber e h places ≡ verdictNumber e h
+  unfolding verdictNumber modesNumber
+  modes-turned-down n = grounds-turned-down (badLength h ∷ largeSum h ∷ badCloseness e ∷ []) (fewPlaces h places ∷ []) n
+
+  pub modes-asked : verdictNumber e h ≡ 0 → modesNumber e h places ≡ firstGround (fewPlaces h places ∷ [])
+  unfolding verdictNumber modesNumber
+  modes-asked z = grounds-served (badLength h ∷ largeSum h ∷ badCloseness e ∷ []) (fewPlaces h places ∷ []) (omega arith, (omega arith, (omega arith, tt))) z
+
+  pub modes-served : modesNumber e h places ≡ 0 → (verdictNumber e h ≡ 0) × (length h ≤ places)
+  modes-served z = go (ℕ-discrete (verdictNumber e h) 0)
+    where
+      go : Dec (verdictNumber e h ≡ 0) → (verdictNumber e h ≡ 0) × (length h ≤ places)
+      go (yes y) = (y, ltb-false _ _ (ground-none (fewPlaces h places) [] (omega arith) (sym (modes-asked y) ∙ z) .0))
+      go (no n) = absurd (n (sym (modes-turned-down n) ∙ z))

@@ -28,9 +28,17 @@ largeSum h = record { number = 7; holds = ltb 65536 (total h) }
 abbrev pub badCloseness : Closeness → Ground
 badCloseness e = record { number = 8; holds = ltb mostCloseness e }
 
+-- 10. 'The separator list has fewer places than the histogram has bins'
+abbrev pub fewPlaces : List ℕ → ℕ → Ground
+fewPlaces h places = record { number = 10; holds = ltb places (length h) }
+
 -- the number of each call: the grounds that concern it, in the document's sequence. The measures of a pixel have none
 unfoldable pub fitNumber : List ℕ → ℕ
 fitNumber h = firstGround (badLength h ∷ largeSum h ∷ [])
 
 unfoldable pub verdictNumber : Closeness → List ℕ → ℕ
 verdictNumber e h = firstGround (badLength h ∷ largeSum h ∷ badCloseness e ∷ [])
+
+-- of the modes of a line and of a ring
+unfoldable pub modesNumber : Closeness → List ℕ → ℕ → ℕ
+modesNumber e h places = firstGround (badLength h ∷ largeSum h ∷ badCloseness e ∷ fewPlaces h places ∷ [])

@@ -4,7 +4,7 @@ ghost use mathlib.Core.Path.{_≡_};
 ghost use Prim.Native.Nat.{_≤_};
 ghost use lib.ListN.{length};
 ghost use Rattle.lists.specs.Lists.{total};
-ghost use Rattle.kistrovu.specs.Grounds.{fitNumber, verdictNumber};
+ghost use Rattle.kistrovu.specs.Grounds.{fitNumber, verdictNumber, modesNumber};
 
 // The sum of the counts. With no more than 256 of them it fits, whatever they are.
 fn sum(h: &[u32]) -> u64
@@ -44,6 +44,19 @@ pub fn verdict_number(h: &[u32], closeness: u32) -> u32
     }
     if MOST_CLOSENESS < closeness {
         return 8;
+    }
+    0
+}
+
+pub fn modes_number(h: &[u32], closeness: u32, places: usize) -> u32
+    ensures { λ r. ⌜ r ≡ modesNumber closeness (now (h .entry)) places ⌝ }
+{
+    let number = verdict_number(h, closeness);
+    if number != 0 {
+        return number;
+    }
+    if places < h.len() {
+        return 10;
     }
     0
 }

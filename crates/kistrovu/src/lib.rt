@@ -1,14 +1,16 @@
 // The public calls, and nothing else: what each promises, for every input, served or turned down.
-// No call asks anything of its caller. `now (histogram .entry)` is the list of counts that was lent.
+// No call asks anything of its caller. `now (s .entry)` is the list that was lent, `now (s .exit)` the list that is left.
 use pixel::Measures;
 use pixel::Pixel;
 use verdict::Verdict;
 ghost use mathlib.Core.Path.{_≡_};
+ghost use lib.ListN.{length};
 ghost use Rattle.pooling.specs.Blocks.{direction};
 ghost use Rattle.pooling.specs.Best.{Pooled};
 ghost use Rattle.verdict.specs.Exactness.{VerdictSound};
-ghost use Rattle.kistrovu.specs.Answers.{measuresAnswer, fitAnswer, verdictAnswer};
-ghost use Rattle.kistrovu.specs.Facts.{IfServed};
+ghost use Rattle.segmentation.specs.Finished.{LineFinished, RingFinished};
+ghost use Rattle.kistrovu.specs.Answers.{measuresAnswer, fitAnswer, verdictAnswer, lineAnswer, lineList, ringAnswer};
+ghost use Rattle.kistrovu.specs.Facts.{IfServed, RingList};
 
 mod grounds;
 
@@ -32,6 +34,13 @@ pub struct FitAnswer {
 pub struct VerdictAnswer {
     pub number: u32,
     pub verdict: Verdict,
+}
+
+// How many separators there are.
+#[repr(C)]
+pub struct ModesAnswer {
+    pub number: u32,
+    pub separators: u32,
 }
 
 // The measures of one pixel. No ground concerns it.
@@ -85,5 +94,53 @@ pub extern "C" fn kistrovu_verdict(histogram: &[u32], rising: bool, closeness: u
                 rejected: false,
             },
         }
+    }
+}
+
+// The modes of a line: its separators, rising, in the first places of the list. Grounds 6, 7, 8, 10.
+#[no_mangle]
+pub extern "C" fn kistrovu_line_modes(
+    histogram: &[u32],
+    closeness: u32,
+    separators: &mut [u32],
+) -> ModesAnswer
+    ensures { λ r. ⌜ (r ≡ lineAnswer closeness (now (histogram .entry)) (length (now (separators .entry))))
+        × (now (separators .exit) ≡ lineList closeness (now (histogram .entry)) (now (separators .entry)))
+        × IfServed (r .number) (LineFinished closeness (now (histogram .entry))) ⌝ }
+{
+    let number = grounds::modes_number(histogram, closeness, separators.len());
+    if number != 0 {
+        return ModesAnswer {
+            number,
+            separators: 0,
+        };
+    }
+    ModesAnswer {
+        number: 0,
+        separators: segmentation::line_separators(histogram, closeness, separators),
+    }
+}
+
+// The modes of a ring: its separators, each once, in the first places of the list; their order is free. Grounds 6, 7, 8, 10.
+#[no_mangle]
+pub extern "C" fn kistrovu_ring_modes(
+    histogram: &[u32],
+    closeness: u32,
+    separators: &mut [u32],
+) -> ModesAnswer
+    ensures { λ r. ⌜ (r ≡ ringAnswer closeness (now (histogram .entry)) (length (now (separators .entry))))
+        × RingList closeness (now (histogram .entry)) (now (separators .entry)) (now (separators .exit))
+        × IfServed (r .number) (RingFinished closeness (now (histogram .entry))) ⌝ }
+{
+    let number = grounds::modes_number(histogram, closeness, separators.len());
+    if number != 0 {
+        return ModesAnswer {
+            number,
+            separators: 0,
+        };
+    }
+    ModesAnswer {
+        number: 0,
+        separators: segmentation::ring_separators(histogram, closeness, separators),
     }
 }

@@ -72,3 +72,8 @@ over-padded n z xs = ap (λ (ys : List _). xs ++ ys) (drop-replicate (length xs)
 pub padded-none : {A : Type 0} (n : ℕ) (z : A) → padded n z [] ≡ replicate n z
 unfolding padded
 padded-none n z = ap (λ (m : ℕ). replicate m z) (sub-zero n)
+
+-- the list itself, out of the first places
+pub over-front : {A : Type 0} (xs buffer : List A) (n : ℕ) → n ≡ length xs → take n (over xs buffer) ≡ xs
+unfolding over
+over-front xs buffer n e = rw e (take-append-seam xs (drop (length xs) buffer))

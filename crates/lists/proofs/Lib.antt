@@ -1,11 +1,17 @@
 pub mod Cases
 pub mod Tests
+pub mod Filters
+pub mod Found
 pub mod Sums
 pub mod Parts
 pub mod Repeats
 pub mod Reversal
+pub mod Rotations
+pub mod Shifts
 pub mod Buffers
 pub mod Signed
+pub mod Lowest
+pub mod Leasts
 pub mod Differences
 pub mod Thresholds
 pub mod Powers

@@ -1,12 +1,12 @@
 -- The order of signed numbers, differences of natural ones, and the largest of several values. Assumes nothing.
 use Prim.Native.Nat.{ℕ, zero, suc, _+_, _-_, _≤_, _<_}
 use mathlib.Core.Path.{_≡_, refl, ap}
-use mathlib.Core.Bool.{true, false, cond, false≢true}
+use mathlib.Core.Bool.{Bool, true, false, cond, false≢true}
 use lib.Dec.{T, ltb, le→leb, leb→le}
 use lib.IntN.{ℤ, pos, negsuc, subℕ, _-ℤ_}
-use lib.Signed.{ltZ, leZ, mag, _≤ℤ_, ≤ℤ-refl, ltZ-no}
+use lib.Signed.{ltZ, leZ, mag, _≤ℤ_, _<ℤ_, ≤ℤ-refl, ltZ-yes, ltZ-no, clashℤ, <ℤ-≤ℤ-trans}
 use native.Mathlib.Omega.{arith}
-use native.Mathlib.Nat.{le-trans}
+use native.Mathlib.Nat.{le-trans, le-antisymm}
 use borrow.Author.Tests.{ltb-true, le-ltb}
 use Rattle.lists.specs.Lists.{largest}
 use Rattle.lists.proofs.Cases.{by-cond, last-or}
@@ -43,6 +43,41 @@ difference-is a (suc b) = refl
 
 pub difference-below : (a b c : ℕ) → a < c → b < c → mag (subℕ a b) < c
 difference-below a b c h k = by-cond (λ (z : ℤ). mag z < c) (ltb a b) (negsuc (b - suc a)) (pos (a - b)) (λ e. omega arith) (λ e. omega arith)
+
+-- ---- the two results of the test of order
+pub lt-yes : {a b : ℤ} → a <ℤ b → ltZ a b ≡ true
+lt-yes {a} {b} h = go (ltZ a b) (h .lt)
+  where
+    go : (t : Bool) → T t → t ≡ true
+    go true u = refl
+    go false u = absurd u
+
+pub yes-lt : (a b : ℤ) → ltZ a b ≡ true → a <ℤ b
+yes-lt a b e = ltZ-yes (rw e tt)
+
+pub lt-no : (a b : ℤ) → b ≤ℤ a → ltZ a b ≡ false
+lt-no a b h = go (ltZ a b) refl
+  where
+    go : (t : Bool) → ltZ a b ≡ t → t ≡ false
+    go true e = clashℤ (yes-lt a b e) h
+    go false e = refl
+
+pub lt-le-lt : (a b c : ℤ) → ltZ a b ≡ true → b ≤ℤ c → ltZ a c ≡ true
+lt-le-lt a b c h k = lt-yes (<ℤ-≤ℤ-trans (yes-lt a b h) k)
+
+pub le-antisym-ℤ : (a b : ℤ) → a ≤ℤ b → b ≤ℤ a → a ≡ b
+le-antisym-ℤ (pos a) (pos b) h k = ap pos (le-antisymm (leb→le a b (h .le)) (leb→le b a (k .le)))
+le-antisym-ℤ (pos a) (negsuc b) h k = absurd (h .le)
+le-antisym-ℤ (negsuc a) (pos b) h k = absurd (k .le)
+le-antisym-ℤ (negsuc a) (negsuc b) h k = ap negsuc (le-antisymm (leb→le a b (k .le)) (leb→le b a (h .le)))
+
+-- what is at most a number below c is below c too
+pub le-lt-ℤ : (a b c : ℤ) → a ≤ℤ b → ltZ b c ≡ true → ltZ a c ≡ true
+le-lt-ℤ a b c h k = go (ltZ a c) refl
+  where
+    go : (t : Bool) → ltZ a c ≡ t → t ≡ true
+    go true e = refl
+    go false e = clashℤ {a = b} {b = c} (ltZ-yes (rw k tt)) (le-trans-ℤ c a b (nlt-le-ℤ a c e) h)
 
 -- ---- the largest of f 0, .., f n is one of them, and none is above it
 pub largest-is : (n : ℕ) (f : ℕ → ℤ) → (i : ℕ) × (i ≤ n) × (largest n f ≡ f i)

@@ -3,7 +3,7 @@ use mathlib.Core.Bool.{true, false}
 use mathlib.Core.List.{List, [], _∷_}
 use lib.IntN.{pos, negsuc}
 use Rattle.pooling.specs.Blocks.{increasing, decreasing}
-use Rattle.samples.specs.Rows.{Sample, measures, logarithm, fit, mass, verdict, block, AllHold}
+use Rattle.samples.specs.Rows.{Sample, measures, logarithm, fit, mass, verdict, line, modes, inLine, ring, block, mode, AllHold}
 
 abbrev pub guards : List Sample
 guards =
@@ -43,6 +43,34 @@ guards =
     ∷ verdict 0 increasing (1 ∷ 2 ∷ 2 ∷ []) (negsuc 43368473) false
     -- a stretch of one bin is never rejected, whatever its cost
     ∷ verdict 0 increasing (5 ∷ []) (pos 0) false
+    -- the first bin of a run of equal bins
+    ∷ line 0 (3 ∷ 0 ∷ 0 ∷ 3 ∷ []) (0 ∷ 1 ∷ 3 ∷ [])
+    -- the run's higher neighbours are those past its ends
+    ∷ line 0 (3 ∷ 0 ∷ 0 ∷ 3 ∷ 2 ∷ 2 ∷ []) (0 ∷ 1 ∷ 5 ∷ [])
+    -- the first highest bin of a plateau is the peak
+    ∷ modes 0 (4 ∷ 0 ∷ 4 ∷ 4 ∷ []) (mode 0 0 1 ∷ mode 1 2 3 ∷ [])
+    -- a kept peak need not be the highest bin
+    ∷ modes 0 (93 ∷ 71 ∷ 94 ∷ 71 ∷ []) (mode 0 0 3 ∷ [])
+    -- the smaller of the two costs counts, and it may be the rise's or the fall's
+    ∷ modes 0 (1 ∷ 0 ∷ 4 ∷ []) (mode 0 2 2 ∷ [])
+    ∷ modes 0 (4 ∷ 0 ∷ 1 ∷ []) (mode 0 0 2 ∷ [])
+    -- the fall if equal
+    ∷ line 0 (0 ∷ 5 ∷ 2 ∷ 5 ∷ 0 ∷ 4 ∷ []) (0 ∷ 5 ∷ [])
+    -- the leftmost of equals
+    ∷ line 0 (5 ∷ 0 ∷ 1 ∷ 0 ∷ 5 ∷ []) (0 ∷ 3 ∷ 4 ∷ [])
+    -- the lowest cost, not the first below 0
+    ∷ line 0 (5 ∷ 0 ∷ 3 ∷ 2 ∷ 5 ∷ []) (0 ∷ 1 ∷ 4 ∷ [])
+    -- a longer run may be joined where no pair can
+    ∷ modes 0 (0 ∷ 5 ∷ 0 ∷ 5 ∷ 0 ∷ 5 ∷ 0 ∷ []) (mode 0 1 6 ∷ [])
+    -- after a join start again with runs of 2
+    ∷ line 0 (5 ∷ 0 ∷ 5 ∷ 0 ∷ 5 ∷ 0 ∷ 5 ∷ []) (0 ∷ 6 ∷ [])
+    -- the last mode takes the last bin, and ends there
+    ∷ inLine 0 (1 ∷ 0 ∷ 4 ∷ []) 0 2 true
+    ∷ inLine 0 (1 ∷ 0 ∷ 4 ∷ []) 0 3 false
+    -- a ring is opened away from bin 0, at the first of equal lowest bins; its own numbers; modes from the opening
+    ∷ ring 0 (9 ∷ 1 ∷ 9 ∷ 0 ∷ 9 ∷ 0 ∷ []) (3 ∷ 5 ∷ 1 ∷ []) (1 ∷ 2 ∷ 2 ∷ 0 ∷ 0 ∷ 1 ∷ [])
+    -- a flat minimum over the seam
+    ∷ ring 0 (0 ∷ 0 ∷ 9 ∷ 1 ∷ 9 ∷ 0 ∷ []) (0 ∷ 3 ∷ []) (0 ∷ 0 ∷ 0 ∷ 1 ∷ 1 ∷ 1 ∷ [])
     ∷ []
 
 -- proved in proofs/Tables

@@ -2,17 +2,21 @@
 use Prim.Native.Nat.{ℕ}
 use mathlib.Core.Path.{_≡_}
 use mathlib.Core.Bool.{Bool}
-use mathlib.Core.List.{List, [], _∷_}
+use mathlib.Core.List.{List, [], _∷_, map}
 use lib.IntN.{ℤ}
+use lib.ListN.{length}
+use Rattle.lists.specs.Lists.{numbers, firstThat, maybe}
 use Rattle.pixel.specs.declared.Pixel.{Pixel}
 use Rattle.pixel.specs.declared.Measures.{Measures}
 use Rattle.pixel.specs.Colour.{chromaSquared, measuresOf}
 use Rattle.logarithm.specs.Log.{lg}
 use Rattle.pooling.specs.declared.Block.{Block}
-use Rattle.pooling.specs.Blocks.{Direction, fitted}
+use Rattle.pooling.specs.Blocks.{Direction, blocks, fitted}
 use Rattle.verdict.specs.declared.Mass.{Mass}
 use Rattle.verdict.specs.Test.{Closeness, verdictOf, fittedMass}
-use Rattle.pooling.specs.Blocks.{blocks}
+use Rattle.segmentation.specs.Segments.{Segment, inMode}
+use Rattle.segmentation.specs.Joining.{lineModes, lineSeparators}
+use Rattle.segmentation.specs.Ring.{ringSeparators, inRingMode}
 
 pub data Sample : Type 0 where
   -- R, G, B; then Q, or the four measures
@@ -24,12 +28,26 @@ pub data Sample : Type 0 where
   -- the fitted mass A/B of the part from bin i to bin j
   mass : Direction → (bins : List ℕ) → (i j a b : ℕ) → Sample
   verdict : Closeness → Direction → (bins : List ℕ) → (cost : ℤ) (rejected : Bool) → Sample
+  -- the separators of a line; its modes, each with its peak
+  line : Closeness → (bins : List ℕ) → (separators : List ℕ) → Sample
+  modes : Closeness → (bins : List ℕ) → List Segment → Sample
+  -- bin b lies in mode m of a line, or not
+  inLine : Closeness → (bins : List ℕ) → (m b : ℕ) → Bool → Sample
+  -- the separators of a ring from its opening on, and each bin's mode
+  ring : Closeness → (bins : List ℕ) → (separators : List ℕ) → (modes : List ℕ) → Sample
 
 abbrev pub rgb : ℕ → ℕ → ℕ → Pixel
 rgb r g b = record { red = r; green = g; blue = b }
 
 abbrev pub block : ℕ → ℕ → Block
 block s n = record { sum = s; len = n }
+
+abbrev pub mode : ℕ → ℕ → ℕ → Segment
+mode s p e = record { start = s; peak = p; end = e }
+
+-- the first of n modes that bin b of the ring lies in
+abbrev pub firstMode : Closeness → List ℕ → ℕ → ℕ → ℕ
+firstMode e h n b = maybe n (λ (m : ℕ). m) (firstThat (λ m. inRingMode e h m b) (numbers 0 n))
 
 abbrev pub Holds : Sample → Type 0
 Holds (chroma r g b q) = chromaSquared (rgb r g b) ≡ q
@@ -38,6 +56,10 @@ Holds (logarithm x units) = lg x ≡ units
 Holds (fit w h bs) = fitted w h ≡ bs
 Holds (mass w h i j a b) = fittedMass h (blocks w h) i j ≡ record { num = a; den = b }
 Holds (verdict e w h c is) = verdictOf e w h ≡ record { cost = c; rejected = is }
+Holds (line e h separators) = lineSeparators e h ≡ separators
+Holds (modes e h ss) = lineModes e h ≡ ss
+Holds (inLine e h m b is) = inMode (lineModes e h) m b ≡ is
+Holds (ring e h separators ms) = (ringSeparators e h ≡ separators) × (map (λ b. firstMode e h (length separators) b) (numbers 0 (length h)) ≡ ms)
 
 abbrev pub AllHold : List Sample → Type 0
 AllHold [] = Unit {0}

@@ -1,8 +1,8 @@
--- Document 01, 'Samples': the table of those with * that speak of pixels and fits. proofs/Tables has one proof of all its rows. Assumes nothing.
+-- Document 01, 'Samples': the table of those with *. proofs/Tables has one proof of all its rows. Assumes nothing.
 use mathlib.Core.Bool.{true, false}
 use mathlib.Core.List.{List, [], _∷_}
 use Rattle.pooling.specs.Blocks.{increasing}
-use Rattle.samples.specs.Rows.{Sample, chroma, measures, fit, block, AllHold}
+use Rattle.samples.specs.Rows.{Sample, chroma, measures, fit, line, block, AllHold}
 
 abbrev pub starred : List Sample
 starred =
@@ -20,6 +20,11 @@ starred =
     -- '3,1,2 increasing pools to one block of 2; 1,3,2 to 1, 5/2, 5/2'
     ∷ fit increasing (3 ∷ 1 ∷ 2 ∷ []) (block 6 3 ∷ block 6 3 ∷ block 6 3 ∷ [])
     ∷ fit increasing (1 ∷ 3 ∷ 2 ∷ []) (block 1 1 ∷ block 5 2 ∷ block 5 2 ∷ [])
+    -- '0,1,0,1,0 at e 0: separators 0, 4. 0,20,0,20,0: 0, 2, 4; at e 13 the same, at e 14: 0, 4'
+    ∷ line 0 (0 ∷ 1 ∷ 0 ∷ 1 ∷ 0 ∷ []) (0 ∷ 4 ∷ [])
+    ∷ line 0 (0 ∷ 20 ∷ 0 ∷ 20 ∷ 0 ∷ []) (0 ∷ 2 ∷ 4 ∷ [])
+    ∷ line 13 (0 ∷ 20 ∷ 0 ∷ 20 ∷ 0 ∷ []) (0 ∷ 2 ∷ 4 ∷ [])
+    ∷ line 14 (0 ∷ 20 ∷ 0 ∷ 20 ∷ 0 ∷ []) (0 ∷ 4 ∷ [])
     ∷ []
 
 -- proved in proofs/Tables

@@ -1,7 +1,10 @@
-// Document 01's samples of pixels, fits and verdicts, as the public calls answer them. The starred ones are also proved, from the
+// Document 01's samples of pixels, fits, verdicts and modes, as the public calls answer them. The starred ones are also proved, from the
 // table in specs/; the others are only run here, and what is printed is compared with the file stdout.
+use kistrovu::ModesAnswer;
 use kistrovu::kistrovu_fit;
+use kistrovu::kistrovu_line_modes;
 use kistrovu::kistrovu_measures;
+use kistrovu::kistrovu_ring_modes;
 use kistrovu::kistrovu_verdict;
 
 fn text(bytes: &[u8]) {
@@ -112,6 +115,44 @@ fn unnamed(what: &[u8], h: &[u32], rising: bool, closeness: u32) {
     verdict(h, rising, closeness);
 }
 
+// The answer of a modes call, and the first of the list that was lent.
+fn modes(m: ModesAnswer, closeness: u32, list: &[u32]) {
+    text(b", closeness");
+    number(closeness as u64);
+    text(b": number");
+    number(m.number as u64);
+    text(b", separators");
+    number(m.separators as u64);
+    text(b", list");
+    counts(list);
+    text(b"\n");
+}
+
+// The list is lent with 99 in each of its 8 places; those past the last separator stay.
+fn line(h: &[u32], closeness: u32) {
+    let mut list = [99u32; 8];
+    let m = kistrovu_line_modes(h, closeness, &mut list);
+    text(b"line");
+    counts(h);
+    modes(m, closeness, &list);
+}
+
+fn ring(h: &[u32], closeness: u32) {
+    let mut list = [99u32; 8];
+    let m = kistrovu_ring_modes(h, closeness, &mut list);
+    text(b"ring");
+    counts(h);
+    modes(m, closeness, &list);
+}
+
+// All bins zero: one mode.
+fn zeros() {
+    let mut list = [0u32; 256];
+    let m = kistrovu_line_modes(&[0u32; 256], 20, &mut list);
+    text(b"line of 256 zeros");
+    modes(m, 20, &list[..3]);
+}
+
 fn starred() {
     measures(13, 9, 0);
     measures(13, 10, 0);
@@ -122,6 +163,18 @@ fn starred() {
     measures(100, 200, 0);
     fit(&[3, 1, 2], true);
     fit(&[1, 3, 2], true);
+    line(&[0, 1, 0, 1, 0], 0);
+    line(&[0, 20, 0, 20, 0], 0);
+    line(&[0, 20, 0, 20, 0], 13);
+    line(&[0, 20, 0, 20, 0], 14);
+}
+
+fn others() {
+    line(&[5, 5, 5, 5, 5, 5, 5, 5, 5], 0);
+    line(&[0, 0], 21);
+    zeros();
+    ring(&[9, 1, 9, 0, 9, 0], 0);
+    ring(&[32768, 32768], 20);
 }
 
 fn main() {
@@ -135,4 +188,5 @@ fn main() {
     unnamed(b"a sum of 65,536", &[256u32; 256], true, 20);
     unnamed(b"a sum of 65,537", &[65536, 1], true, 0);
     unnamed(b"counts of 4,294,967,295", &[4294967295u32; 256], false, 0);
+    others();
 }

@@ -5,6 +5,7 @@ pub mod Masses
 mod Tables
 pub mod Range
 mod Sizes
+mod Caps
 pub mod Monotone
 pub mod Band
 pub mod Sound

@@ -49,14 +49,15 @@ term-ranged : (f x : ℕ) → Ranged f x → f * lg x ≤ f * 2 ^ 45
 term-ranged zero x r = rw (zero-mul, zero-mul) (le-refl 0)
 term-ranged (suc f) x r = term-small (suc f) x (r .some (omega arith)) (r .below)
 
-weight-small : (n k : ℕ) (m : Mass) → InRange n k m → n ≤ 98304 → mag (weight n k m) < 2 ^ 62
+-- with room for the bar
+pub weight-small : (n k : ℕ) (m : Mass) → InRange n k m → n ≤ 98304 → mag (weight n k m) < 2 ^ 62 - 2 ^ 46
 unfolding weight
 weight-small n k m r h =
     let a = term-ranged k (k * m .den) (counted n k m r k (r .partial)) in
     let b = term-ranged (n - k) ((n - k) * m .den) (counted n k m r (n - k) (omega arith)) in
     let c = term-ranged k (m .num) (massed n k m r) in
     let d = term-ranged (n - k) (n * m .den - m .num) (remaining n k m r) in
-    difference-below (observedLog n k m) (expectedLog n k m) (2 ^ 62) (omega (arith, r .partial)) (omega (arith, r .partial))
+    difference-below (observedLog n k m) (expectedLog n k m) (2 ^ 62 - 2 ^ 46) (omega (arith, r .partial)) (omega (arith, r .partial))
 
 pub largest-small : (w : Direction) (h : List ℕ) → 1 ≤ length h → length h ≤ 257 → total h ≤ 98304 → mag (largestWeight h (blocks w h)) < 2 ^ 62
 unfolding partWeight
@@ -65,4 +66,4 @@ largest-small w h some bins counts =
     let i = found .0 in
     let j = found .1 in
     rw (found .4)
-    (weight-small (total h) (total (part i j h)) (fittedMass h (blocks w h) i j) (in-range w h bins counts i j (found .2) (found .3)) counts)
+    (omega (arith, weight-small (total h) (total (part i j h)) (fittedMass h (blocks w h) i j) (in-range w h bins counts i j (found .2) (found .3)) counts))

@@ -16,7 +16,7 @@ ghost use Rattle.verdict.specs.Test.{partWeight, largestWeight, cost, mo
 ghost use Rattle.verdict.specs.Tables.{Small, Tables};
 
 // The weight of the part from bin i to bin j.
-fn part_weight(
+pub fn part_weight(
     h: &[u32],
     rising: bool,
     before: &[u32; 258],

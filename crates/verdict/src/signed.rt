@@ -1,8 +1,8 @@
-// Signed figures: the difference of two sums, the larger of two, and the sign.
+// Signed figures: the difference of two sums, the larger of two, the sign, and what is added or taken off.
 ghost use mathlib.Core.Path.{_≡_};
 ghost use mathlib.Core.Bool.{cond};
 ghost use Prim.Native.Nat.{_<_, _^_};
-ghost use lib.IntN.{pos, subℕ, _-ℤ_};
+ghost use lib.IntN.{pos, subℕ, _+ℤ_, _-ℤ_};
 ghost use lib.Signed.{leZ, ltZ, mag};
 
 // a less b.
@@ -33,4 +33,12 @@ pub fn less(x: i64, b: u64) -> i64
     ensures { λ r. ⌜ r ≡ x -ℤ pos b ⌝ }
 {
     x - (b as i64)
+}
+
+// x and b together.
+pub fn sum(x: i64, b: u64) -> i64
+    requires { ⌜ (mag x < 2 ^ 62) × (b < 2 ^ 62) ⌝ }
+    ensures { λ r. ⌜ r ≡ x +ℤ pos b ⌝ }
+{
+    x + (b as i64)
 }

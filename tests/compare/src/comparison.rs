@@ -1,6 +1,7 @@
 //! Engine and reference side by side: what was compared, and the first difference.
 
 use crate::groups::Case;
+use crate::mode_groups::ModesCase;
 use std::fmt::Debug;
 
 /// The calls that are compared in this run.
@@ -9,6 +10,15 @@ pub struct Calls {
     pub measures: bool,
     pub fits: bool,
     pub verdicts: bool,
+    pub lines: bool,
+    pub rings: bool,
+}
+
+/// Bins in a line, or round a ring.
+#[derive(Clone, Copy)]
+pub enum Form {
+    Line,
+    Ring,
 }
 
 #[derive(Default)]
@@ -17,6 +27,8 @@ pub struct Tally {
     pub measures: u64,
     pub fits: u64,
     pub verdicts: u64,
+    pub modes: u64,
+    pub several: u64,
     pub served: u64,
     pub turned_down: u64,
     pub rejected: u64,
@@ -122,6 +134,62 @@ fn verdict(
     };
     same(input, expected.into(), answer)?;
     same(|| format!("histogram after {}", input()), histogram, &lent)
+}
+
+/// Places behind the list that was lent: they are not the engine's to write.
+const BEHIND: usize = 4;
+
+pub fn modes(form: Form, case: &ModesCase, tally: &mut Tally) -> Result<(), Difference> {
+    let ModesCase {
+        histogram,
+        closeness,
+        places,
+    } = case;
+    let mut lent = histogram.clone();
+    let mut list = unwritten(places + BEHIND);
+    let mut expected_list = list.clone();
+    let (answer, expected) = match form {
+        Form::Line => (
+            engine::line_modes(&mut lent, *closeness, &mut list[..*places]),
+            reference::calls::line_modes(histogram, *closeness, &mut expected_list[..*places]),
+        ),
+        Form::Ring => (
+            engine::ring_modes(&mut lent, *closeness, &mut list[..*places]),
+            reference::calls::ring_modes(histogram, *closeness, &mut expected_list[..*places]),
+        ),
+    };
+    tally.modes += 1;
+    tally.count(expected.number);
+    let input = || {
+        let form = form.name();
+        let bins = listed(histogram);
+        format!("modes, {form}, closeness {closeness}, {places} places, of {bins}")
+    };
+    let count = expected.separators as usize;
+    if let Form::Ring = form {
+        // The order of a ring's separators is open: both sides are put into one order.
+        list[..count].sort_unstable();
+        expected_list[..count].sort_unstable();
+        tally.several += u64::from(count > 1);
+    } else {
+        tally.several += u64::from(count > 2);
+    }
+    same(input, (expected.into(), expected_list), (answer, list))?;
+    same(|| format!("histogram after {}", input()), histogram, &lent)
+}
+
+impl Form {
+    pub fn name(self) -> &'static str {
+        match self {
+            Form::Line => "line",
+            Form::Ring => "ring",
+        }
+    }
+}
+
+/// Numbers that are no bins, each another one, so that every place that is written shows.
+fn unwritten(places: usize) -> Vec<u32> {
+    (0..places as u32).map(|place| 1_000_000 + place).collect()
 }
 
 fn direction(rising: bool) -> &'static str {

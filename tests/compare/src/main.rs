@@ -2,27 +2,36 @@
 //!
 //! In `tests/`, after `rt staticlib kistrovu` at the repository's root:
 //!
-//!     cargo run --release -p compare -- [--seed S] [--count N] [--only measures|fits|verdicts]
+//!     cargo run --release -p compare -- [--seed S] [--count N] [--only measures|fits|verdicts|lines|rings]
 //!
 //! KISTROVU_LIB names another folder to take `libkistrovu.a` from. Without arguments the run is the same every time:
-//! all pixels, the listed histograms, and `COUNT` drawn ones. Each group prints a line; at a difference the group
+//! all pixels, the listed histograms, lines and rings, and drawn ones: `COUNT` histograms, and the shares of `COUNT`
+//! that `mode_groups.rs` gives to lines and to rings. Each group prints a line; at a difference the group
 //! ends with the input and both answers. The last line is the number of groups passed and failed, and the exit code
 //! is 1 if one failed.
 
 mod comparison;
 mod groups;
+mod mode_groups;
+mod mode_shapes;
+mod mode_ties;
 mod random;
 mod shapes;
 mod ties;
 
-use comparison::{Calls, Difference, Tally};
+use comparison::{Calls, Difference, Form, Tally};
 use groups::{Source, GROUPS};
+use mode_groups::{ModesSource, LINES, RINGS};
 use random::Random;
 use std::process::ExitCode;
 
 const SEED: u64 = 1;
 const COUNT: usize = 100_000;
-const USAGE: &str = "usage: compare [--seed S] [--count N] [--only measures|fits|verdicts]";
+/// The first streams of lines and rings, far enough apart that one group more moves none of the others.
+const LINE_STREAMS: usize = 100;
+const RING_STREAMS: usize = 200;
+const USAGE: &str =
+    "usage: compare [--seed S] [--count N] [--only measures|fits|verdicts|lines|rings]";
 
 struct Options {
     seed: u64,
@@ -48,11 +57,15 @@ fn options(mut words: impl Iterator<Item = String>) -> Result<Options, String> {
         measures: true,
         fits: true,
         verdicts: true,
+        lines: true,
+        rings: true,
     };
     let none = Calls {
         measures: false,
         fits: false,
         verdicts: false,
+        lines: false,
+        rings: false,
     };
     let mut options = Options {
         seed: SEED,
@@ -79,6 +92,18 @@ fn options(mut words: impl Iterator<Item = String>) -> Result<Options, String> {
             ("--only", "verdicts") => {
                 options.calls = Calls {
                     verdicts: true,
+                    ..none
+                }
+            }
+            ("--only", "lines") => {
+                options.calls = Calls {
+                    lines: true,
+                    ..none
+                }
+            }
+            ("--only", "rings") => {
+                options.calls = Calls {
+                    rings: true,
                     ..none
                 }
             }
@@ -111,6 +136,19 @@ fn run(options: &Options) -> (usize, usize) {
             note(name, tally, outcome);
         }
     }
+    let mut modes = |form: Form, groups: &[(&str, ModesSource)], first_stream: usize| {
+        for (index, (name, source)) in groups.iter().enumerate() {
+            let mut tally = Tally::default();
+            let outcome = compare_modes(form, source, first_stream + index, options, &mut tally);
+            note(&format!("{}, {name}", form.name()), tally, outcome);
+        }
+    };
+    if options.calls.lines {
+        modes(Form::Line, &LINES, LINE_STREAMS);
+    }
+    if options.calls.rings {
+        modes(Form::Ring, &RINGS, RING_STREAMS);
+    }
     (passed, failed)
 }
 
@@ -121,16 +159,37 @@ fn compare_group(
     options: &Options,
     tally: &mut Tally,
 ) -> Result<(), Difference> {
-    let mut random = Random::new(Random::new(options.seed).next() ^ index as u64);
-    let cases = source.cases(&mut random, options.count);
+    let cases = source.cases(&mut stream(options.seed, index), options.count);
     cases
         .iter()
         .try_for_each(|case| comparison::case(case, options.calls, tally))
 }
 
+fn compare_modes(
+    form: Form,
+    source: &ModesSource,
+    index: usize,
+    options: &Options,
+    tally: &mut Tally,
+) -> Result<(), Difference> {
+    let cases = source.cases(&mut stream(options.seed, index), options.count);
+    cases
+        .iter()
+        .try_for_each(|case| comparison::modes(form, case, tally))
+}
+
+fn stream(seed: u64, index: usize) -> Random {
+    Random::new(Random::new(seed).next() ^ index as u64)
+}
+
 fn report(name: &str, tally: &Tally, difference: Option<Difference>) {
     let compared = if tally.measures > 0 {
         format!("{} pixels, {} grey", tally.measures, tally.grey)
+    } else if tally.modes > 0 {
+        format!(
+            "{} histograms, {} served, {} turned down, {} of several modes",
+            tally.modes, tally.served, tally.turned_down, tally.several
+        )
     } else {
         format!(
             "{} histograms, {} fits, {} verdicts, {} served, {} turned down, {} rejected",

@@ -41,6 +41,13 @@ pub struct VerdictAnswer {
     pub verdict: Verdict,
 }
 
+#[repr(C)]
+#[derive(Clone, Copy, Debug, PartialEq, Eq)]
+pub struct ModesAnswer {
+    pub number: u32,
+    pub separators: u32,
+}
+
 extern "C" {
     fn kistrovu_measures(red: u8, green: u8, blue: u8) -> MeasuresAnswer;
     fn kistrovu_fit(histogram: *const u32, len: usize, rising: bool) -> FitAnswer;
@@ -50,6 +57,20 @@ extern "C" {
         rising: bool,
         closeness: u32,
     ) -> VerdictAnswer;
+    fn kistrovu_line_modes(
+        histogram: *const u32,
+        len: usize,
+        closeness: u32,
+        separators: *mut u32,
+        places: usize,
+    ) -> ModesAnswer;
+    fn kistrovu_ring_modes(
+        histogram: *const u32,
+        len: usize,
+        closeness: u32,
+        separators: *mut u32,
+        places: usize,
+    ) -> ModesAnswer;
 }
 
 pub fn measures(red: u8, green: u8, blue: u8) -> MeasuresAnswer {
@@ -67,6 +88,34 @@ pub fn fit(histogram: &mut [u32], rising: bool) -> FitAnswer {
 pub fn verdict(histogram: &mut [u32], rising: bool, closeness: u32) -> VerdictAnswer {
     // SAFETY: as in `fit`.
     unsafe { kistrovu_verdict(histogram.as_mut_ptr(), histogram.len(), rising, closeness) }
+}
+
+/// The histogram is lent as in `fit`.
+pub fn line_modes(histogram: &mut [u32], closeness: u32, separators: &mut [u32]) -> ModesAnswer {
+    // SAFETY: each pointer and length are those of one slice, lent for the time of the call; the two do not overlap.
+    unsafe {
+        kistrovu_line_modes(
+            histogram.as_mut_ptr(),
+            histogram.len(),
+            closeness,
+            separators.as_mut_ptr(),
+            separators.len(),
+        )
+    }
+}
+
+/// The histogram is lent as in `fit`.
+pub fn ring_modes(histogram: &mut [u32], closeness: u32, separators: &mut [u32]) -> ModesAnswer {
+    // SAFETY: as in `line_modes`.
+    unsafe {
+        kistrovu_ring_modes(
+            histogram.as_mut_ptr(),
+            histogram.len(),
+            closeness,
+            separators.as_mut_ptr(),
+            separators.len(),
+        )
+    }
 }
 
 impl From<calls::MeasuresAnswer> for MeasuresAnswer {
@@ -103,6 +152,15 @@ impl From<calls::VerdictAnswer> for VerdictAnswer {
                 cost: verdict.cost,
                 rejected: verdict.rejected.into(),
             },
+        }
+    }
+}
+
+impl From<calls::ModesAnswer> for ModesAnswer {
+    fn from(answer: calls::ModesAnswer) -> Self {
+        ModesAnswer {
+            number: answer.number,
+            separators: answer.separators,
         }
     }
 }

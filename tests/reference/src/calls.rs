@@ -1,8 +1,8 @@
 //! The public calls: the grounds that concern them, and their answers, served or turned down.
 
 use crate::measures::{self, Measures};
-use crate::pooling;
 use crate::test::{self, Verdict};
+use crate::{lines, pooling, rings};
 
 /// The most bins of a histogram, and so the places of a fit.
 pub const MOST_BINS: usize = 256;
@@ -29,6 +29,13 @@ pub struct VerdictAnswer {
     pub verdict: Verdict,
 }
 
+/// How many separators there are. They themselves are in the list that was lent.
+#[derive(Clone, Copy, Debug, PartialEq, Eq)]
+pub struct ModesAnswer {
+    pub number: u32,
+    pub separators: u32,
+}
+
 pub fn measures(red: u8, green: u8, blue: u8) -> MeasuresAnswer {
     MeasuresAnswer {
         number: 0,
@@ -37,7 +44,7 @@ pub fn measures(red: u8, green: u8, blue: u8) -> MeasuresAnswer {
 }
 
 pub fn fit(histogram: &[u32], rising: bool) -> FitAnswer {
-    let number = first_ground(histogram, None);
+    let number = first_ground(histogram, None, None);
     let mut answer = FitAnswer {
         number,
         sums: [0; MOST_BINS],
@@ -53,7 +60,7 @@ pub fn fit(histogram: &[u32], rising: bool) -> FitAnswer {
 }
 
 pub fn verdict(histogram: &[u32], rising: bool, closeness: u32) -> VerdictAnswer {
-    let number = first_ground(histogram, Some(closeness));
+    let number = first_ground(histogram, Some(closeness), None);
     let verdict = if number == 0 {
         test::verdict(&widened(histogram), rising, closeness)
     } else {
@@ -65,14 +72,48 @@ pub fn verdict(histogram: &[u32], rising: bool, closeness: u32) -> VerdictAnswer
     VerdictAnswer { number, verdict }
 }
 
-/// The number of the first ground that holds, 0 when none does. A fit has no closeness.
-pub fn first_ground(histogram: &[u32], closeness: Option<u32>) -> u32 {
+pub fn line_modes(histogram: &[u32], closeness: u32, list: &mut [u32]) -> ModesAnswer {
+    modes(histogram, closeness, list, lines::separators)
+}
+
+/// The list's order is open; this one is from the opening on.
+pub fn ring_modes(histogram: &[u32], closeness: u32, list: &mut [u32]) -> ModesAnswer {
+    modes(histogram, closeness, list, rings::separators)
+}
+
+fn modes(
+    histogram: &[u32],
+    closeness: u32,
+    list: &mut [u32],
+    separators: fn(&[u64], u32) -> Vec<usize>,
+) -> ModesAnswer {
+    let number = first_ground(histogram, Some(closeness), Some(list.len()));
+    if number != 0 {
+        return ModesAnswer {
+            number,
+            separators: 0,
+        };
+    }
+    let separators = separators(&widened(histogram), closeness);
+    for (place, &separator) in list.iter_mut().zip(&separators) {
+        *place = separator as u32;
+    }
+    ModesAnswer {
+        number,
+        separators: separators.len() as u32,
+    }
+}
+
+/// The number of the first ground that holds, 0 when none does. A fit has no closeness, and only modes are listed in
+/// places that were lent.
+pub fn first_ground(histogram: &[u32], closeness: Option<u32>, places: Option<usize>) -> u32 {
     let bins = histogram.len();
     let sum: u128 = histogram.iter().map(|&count| u128::from(count)).sum();
     let grounds = [
         (6, !(LEAST_BINS..=MOST_BINS).contains(&bins)),
         (7, sum > MOST_PIXELS),
         (8, closeness.is_some_and(|e| e > MOST_CLOSENESS)),
+        (10, places.is_some_and(|places| places < bins)),
     ];
     grounds
         .iter()
@@ -151,5 +192,73 @@ mod tests {
             .iter()
             .chain(&answer.lengths[3..])
             .all(|&figure| figure == 0));
+    }
+
+    const CALLS: [fn(&[u32], u32, &mut [u32]) -> ModesAnswer; 2] = [line_modes, ring_modes];
+
+    fn modes_turned_down(number: u32) -> ModesAnswer {
+        ModesAnswer {
+            number,
+            separators: 0,
+        }
+    }
+
+    #[test]
+    fn modes_of_the_paper() {
+        let mut list = [9; 7];
+        let two = ModesAnswer {
+            number: 0,
+            separators: 3,
+        };
+        assert_eq!(line_modes(&[0, 20, 0, 20, 0], 13, &mut list), two);
+        assert_eq!(list, [0, 2, 4, 9, 9, 9, 9]);
+        let one = ModesAnswer {
+            number: 0,
+            separators: 2,
+        };
+        assert_eq!(line_modes(&[0, 1, 0, 1, 0], 0, &mut list), one);
+        assert_eq!(list, [0, 4, 4, 9, 9, 9, 9]);
+    }
+
+    #[test]
+    fn modes_are_turned_down_on_four_grounds() {
+        for call in CALLS {
+            for (bins, number) in [(0, 6), (1, 6), (2, 0), (256, 0), (257, 6)] {
+                assert_eq!(call(&vec![1; bins], 0, &mut [0; 300]).number, number);
+            }
+            for (last, number) in [(1, 0), (2, 7), (u32::MAX, 7)] {
+                assert_eq!(call(&[65_535, last], 20, &mut [0; 2]).number, number);
+            }
+            for (closeness, number) in [(20, 0), (21, 8), (u32::MAX, 8)] {
+                assert_eq!(call(&[3, 1], closeness, &mut [0; 2]).number, number);
+            }
+            for (places, number) in [(0, 10), (2, 10), (3, 0), (4, 0)] {
+                assert_eq!(call(&[3, 1, 2], 0, &mut vec![0; places]).number, number);
+            }
+        }
+    }
+
+    #[test]
+    fn modes_turned_down_leave_the_list() {
+        for call in CALLS {
+            let mut list = [7, 8];
+            assert_eq!(call(&[u32::MAX; 257], 21, &mut list), modes_turned_down(6));
+            assert_eq!(call(&[u32::MAX; 256], 21, &mut list), modes_turned_down(7));
+            assert_eq!(call(&[9, 0, 9, 0], 21, &mut list), modes_turned_down(8));
+            assert_eq!(call(&[9, 0, 9, 0], 0, &mut list), modes_turned_down(10));
+            assert_eq!(list, [7, 8]);
+        }
+    }
+
+    /// The largest sum of an opened ring: two equal bins become three.
+    #[test]
+    fn a_ring_of_two_bins_counts_its_lowest_twice() {
+        let mut list = [9; 2];
+        let one = ModesAnswer {
+            number: 0,
+            separators: 1,
+        };
+        assert_eq!(ring_modes(&[32_768, 32_768], 0, &mut list), one);
+        assert_eq!(list, [0, 9]);
     }
 }

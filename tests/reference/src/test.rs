@@ -9,7 +9,8 @@ pub struct Verdict {
     pub rejected: bool,
 }
 
-/// The verdict of a stretch whose counts sum to 65,536 at most.
+/// The verdict of a stretch of 257 bins and a sum of 98,304 at most: those of an opened ring, whose lowest bin counts
+/// twice.
 pub fn verdict(counts: &[u64], rising: bool, closeness: u32) -> Verdict {
     let cost = largest_weight(counts, rising) - bar(counts.len(), closeness);
     Verdict {

@@ -1,0 +1,31 @@
+-- `modes_number` meets its contract: the grounds of a verdict come first. Assumes nothing.
+use mathlib.Core.Path.{sym, _∙_}
+use borrow.Author.Needs.{needs}
+use borrow.Author.Tests.{lt-ltb, le-ltb}
+use Rattle.kistrovu.specs.Grounds.{firstGround}
+use Rattle.kistrovu.proofs.Served.{modes-turned-down, modes-asked}
+use Rattle.kistrovu.proofs.grounds.modes_number.Statement.{statement}
+use Rattle.kistrovu.proofs.grounds.modes_number.Tie as tie
+
+verdict-number-requires : tie.Need-verdict-number-requires
+verdict-number-requires c κs = search needs
+
+returns : tie.Need-returns
+returns c =
+    let s = c .before .before .before in
+    c .before .verdict-number .ensures ∙ sym (modes-turned-down (s .args .closeness) (s .args .h .now) (s .args .places) (rw (c .before .verdict-number .ensures) at (c .if1 .taken)))
+
+returns-2 : tie.Need-returns-2
+unfolding firstGround
+returns-2 c =
+    let s = c .before .before .before .before in
+    sym (modes-asked (s .args .closeness) (s .args .h .now) (s .args .places) (sym (c .before .before .verdict-number .ensures) ∙ c .before .if1 .left) ∙ simp (lt-ltb _ _ (c .if2 .taken)))
+
+returns-3 : tie.Need-returns-3
+unfolding firstGround
+returns-3 c =
+    let s = c .before .before .before .before in
+    sym (modes-asked (s .args .closeness) (s .args .h .now) (s .args .places) (sym (c .before .before .verdict-number .ensures) ∙ c .before .if1 .left) ∙ simp (le-ltb _ _ (c .if2 .left)))
+
+pub modes-number-spec : {M : Type 1} → statement M
+modes-number-spec = tie.close (tie.spec verdict-number-requires returns returns-2 returns-3)

@@ -1,0 +1,129 @@
+-- The joins put together: what every join keeps holds of the modes of a line, and a finished line is what demand 3 says. Assumes nothing.
+use Prim.Native.Nat.{ℕ, suc, _-_, _≤_, _<_}
+use mathlib.Core.Path.{_≡_, ap, subst, _∙_}
+use mathlib.Core.Bool.{true}
+use mathlib.Core.List.{List, [], _∷_, map}
+use mathlib.Core.Option.{some}
+use lib.ListN.{length, drop, length-append, length-map, length-drop, List·getD-map, List·getD-append}
+use lib.Seq.{length-take-le, getD-at}
+use lib.IntN.{pos}
+use lib.Signed.{ltZ}
+use native.Mathlib.Omega.{arith}
+use Rattle.lists.specs.Lists.{total, part}
+use Rattle.lists.proofs.Cases.{by-order}
+use Rattle.lists.proofs.Sums.{total-part-le}
+use Rattle.pooling.specs.Blocks.{Direction}
+use Rattle.verdict.specs.Test.{Closeness}
+use Rattle.verdict.specs.Exactness.{VerdictSound}
+use Rattle.verdict.proofs.Sound.{verdict-sound}
+use Rattle.segmentation.specs.Segments.{Segment, segmentAt, binAt, firstSegments}
+use Rattle.segmentation.specs.Joining.{lineReader, Join, join, nextJoin, lineModes, lineSeparators}
+use Rattle.segmentation.specs.Inside.{Inside, modeCount}
+use Rattle.segmentation.specs.Finished.{Cut, SingleHump, AlwaysFinished}
+use Rattle.segmentation.proofs.Settled.{next-of, next-run, next-below, join-all-keeps, none-joinable}
+use Rattle.segmentation.proofs.Kept.{Run, join-cut, join-inside, join-counts, join-humps}
+use Rattle.segmentation.proofs.OneMode.{one-mode}
+use Rattle.segmentation.proofs.FirstCut.{first-cut, first-humps, first-inside, first-counts}
+
+-- ---- behind every verdict of a part of a line
+part-length : (i j : ℕ) (h : List ℕ) → i ≤ j → j < length h → length (part i j h) ≡ suc j - i
+unfolding part
+part-length i j h a b = length-take-le (suc j - i) (drop i h) (omega (arith, length-drop i h))
+
+part-sound : (e : Closeness) (w : Direction) (h : List ℕ) → length h ≤ 257 → total h ≤ 98304
+    → (i j : ℕ) → i ≤ j → j < length h → VerdictSound e w (part i j h)
+part-sound e w h bins counts i j a b =
+    verdict-sound e w (part i j h) (omega (arith, part-length i j h a b)) (omega (arith, total-part-le i j h (omega arith)))
+
+-- ---- the separators of a line: the starts of its modes, and the last bin
+module _ (e : Closeness) (h : List ℕ) where
+  starts : List ℕ
+  starts = map (λ (s : Segment). s .start) (lineModes e h)
+
+  starts-length : length starts ≡ length (lineModes e h)
+  unfolding starts
+  starts-length = length-map (lineModes e h) (λ (s : Segment). s .start)
+
+  pub separators-length : length (lineSeparators e h) ≡ suc (length (lineModes e h))
+  unfolding lineSeparators starts
+  separators-length = omega (arith, length-append starts ((length h - 1) ∷ []), starts-length)
+
+  pub separator-at : (i : ℕ) → i < length (lineModes e h) → binAt (lineSeparators e h) i ≡ segmentAt (lineModes e h) i .start
+  unfolding lineSeparators starts
+  separator-at i l =
+      List·getD-append starts ((length h - 1) ∷ []) 0 i (omega (arith, starts-length))
+      ∙ List·getD-map (λ (s : Segment). s .start) (lineModes e h) i (record { start = 0; peak = 0; end = 0 })
+
+  pub separator-last : binAt (lineSeparators e h) (length (lineModes e h)) ≡ length h - 1
+  unfolding lineSeparators starts
+  separator-last = getD-at starts (length h - 1) [] 0 (length (lineModes e h)) starts-length
+
+  pub separators-rise : Cut (length h) (lineModes e h)
+      → (i : ℕ) → suc i < length (lineSeparators e h) → binAt (lineSeparators e h) i < binAt (lineSeparators e h) (suc i)
+  separators-rise c i l =
+      let ss = lineModes e h in
+      let k : i < length ss = omega (arith, separators-length) in
+      let a = separator-at i k in
+      let b = c .ascending i k in
+      by-order (suc i) (length ss)
+      (λ m. omega (arith, separator-at (suc i) m, c .adjacent i m))
+      (λ m.
+      let last : suc i ≡ length ss = omega arith in
+      let at : i ≡ length ss - 1 = omega arith in
+      omega (
+        arith,
+        ap (binAt (lineSeparators e h)) last ∙ separator-last,
+        ap (λ (n : ℕ). segmentAt ss n .end) at,
+        c .toLastBin,
+      ))
+
+-- ---- of the first segments, whatever proves it of them
+module _ (e : Closeness) (h : List ℕ) (two : 2 ≤ length h) where
+  -- what every join of a line keeps, given its cut, holds of its modes
+  kept : (P : List Segment → Type 0)
+      → ((ss : List Segment) (j : Join) → nextJoin e (lineReader h) ss ≡ some j → Cut (length h) ss → Run ss j → P ss → P (join ss j))
+      → P (firstSegments h) → Cut (length h) (lineModes e h) × P (lineModes e h)
+  unfolding lineModes
+  kept P keeps p =
+      join-all-keeps e (lineReader h) (λ ss. Cut (length h) ss × P ss)
+      (λ ss j q c. let v = next-run e (lineReader h) ss j q in (join-cut (length h) ss j (c .0) v, keeps ss j q (c .0) v (c .1)))
+      (length (firstSegments h)) (firstSegments h) (first-cut h two, p)
+
+  cut-inside : Cut (length h) (lineModes e h) × Inside (lineModes e h)
+  cut-inside = kept Inside (λ ss j q c v. join-inside (length h) ss j c v) (first-inside h two)
+
+  pub modes-cut : Cut (length h) (lineModes e h)
+  modes-cut = cut-inside .0
+
+  pub modes-inside : Inside (lineModes e h)
+  modes-inside = cut-inside .1
+
+  pub modes-counts : 0 < total h → (m : ℕ) → m < length (lineModes e h) → 0 < modeCount h (lineModes e h) m
+  modes-counts filled =
+      kept (λ ss. (m : ℕ) → m < length ss → 0 < modeCount h ss m) (λ ss j q c v. join-counts (length h) ss j c v h) (first-counts h two filled) .1
+
+  pub modes-humps : (m : ℕ) → m < length (lineModes e h) → SingleHump e (lineReader h) (lineModes e h) m
+  modes-humps = kept Humps next-humps (first-humps e h two) .1
+    where
+      Humps : List Segment → Type 0
+      Humps ss = (m : ℕ) → m < length ss → SingleHump e (lineReader h) ss m
+
+      next-humps : (ss : List Segment) (j : Join) → nextJoin e (lineReader h) ss ≡ some j → Cut (length h) ss → Run ss j → Humps ss → Humps (join ss j)
+      next-humps ss j q c v humps =
+          let r = next-of e (lineReader h) ss j q in
+          subst (λ (k : Join). ltZ (k .cost) (pos 0) ≡ true → Run ss k → Humps (join ss k)) (r .2)
+          (λ b w. join-humps e (lineReader h) ss (r .0) (r .1) b w humps) (next-below e (lineReader h) ss j q) v
+
+pub line-finished : AlwaysFinished
+line-finished e h two bins counts =
+    let c = modes-cut e h two in
+    record {
+      finished = record {
+        cut = c;
+        noneJoinable = none-joinable e h;
+        humps = modes-humps e h two;
+        oneMode = one-mode (length h) (lineModes e h) c;
+        verdicts = λ w. part-sound e w h bins counts;
+      };
+      rising = separators-rise e h c;
+    }

@@ -1,0 +1,17 @@
+mod Valleys
+mod FirstHumps
+mod NotRejected
+pub mod FirstCut
+mod Walking
+mod FirstHeld
+pub mod Kept
+pub mod Settled
+pub mod OneMode
+pub mod Finishing
+pub mod Always
+mod Holding
+mod Searching
+mod Applied
+pub mod RingPlaces
+pub mod RingModes
+mod Listed

@@ -1,0 +1,82 @@
+-- `cheapest_below` meets its contract. The loop's invariant: what is found so far is the leftmost of the lowest among the runs passed, where it is below 0. Assumes nothing.
+use Prim.Native.Nat.{ℕ, suc, _+_, _-_, _≤_}
+use mathlib.Core.Path.{_≡_, ap, _∙_}
+use mathlib.Core.List.{List}
+use native.Mathlib.Omega.{arith}
+use mir.Syntax.{w64}
+use mir.Val.{toZ, ofZ}
+use borrow.Author.Needs.{needs}
+use Rattle.verdict.proofs.Machine.{handed-back}
+use Rattle.segmentation.specs.Joining.{Join, lineReader, joinOf}
+use Rattle.segmentation.specs.Held.{segmentsHeld}
+use Rattle.segmentation.proofs.Searching.{Searched, searched-none, searched-more, searched-all, soFar}
+use Rattle.segmentation.proofs.runs.cheapest_below.Statement.{statement}
+use Rattle.segmentation.proofs.runs.cheapest_below.Tie as tie
+
+-- the runs of len segments
+abbrev runs : (h : List ℕ) (closeness : ℕ) (separators peaks : List ℕ) (n len : ℕ) → ℕ → Join
+runs h closeness separators peaks n len k = joinOf closeness (lineReader h) (segmentsHeld separators peaks 0 n) k len
+
+abbrev Inv-loop : tie.InvT-loop
+Inv-loop h closeness separators peaks n len best₀ i₀ best i = (i + len ≤ n + 1) × Searched (runs h closeness separators peaks n len) i best
+
+abbrev μ-loop : tie.MeasureT-loop
+μ-loop h closeness separators peaks n len best₀ i₀ best i = n + 1 - i
+
+nothing-requires : tie.Need-nothing-requires Inv-loop μ-loop
+nothing-requires c κs = search needs
+
+loop-holds : tie.Need-loop-holds Inv-loop μ-loop
+loop-holds c = (search needs, searched-none _ _ (c .nothing .ensures .0) (c .nothing .ensures .1))
+
+add-loop : tie.Need-add-loop Inv-loop μ-loop
+add-loop c = search needs
+
+least-is : (c : tie.At-loop Inv-loop μ-loop) → toZ w64 (ofZ w64 (c .loop .best .join .cost)) ≡ c .loop .best .join .cost
+least-is c = handed-back (omega (arith, c .loop .inv .1 .small))
+
+run-requires : tie.Need-run-requires Inv-loop μ-loop
+run-requires c κs =
+    let a = c .before .before in
+    let s = a .before .before .before .before .before in
+    rw (least-is a) (s .pre .0, (s .pre .1 .0, search needs, a .loop .inv .1 .small))
+
+better-requires : tie.Need-better-requires Inv-loop μ-loop
+better-requires c κs = search needs
+
+add-i : tie.Need-add-i Inv-loop μ-loop
+add-i c = search needs
+
+loop-less : tie.Need-loop-less Inv-loop μ-loop
+loop-less c = search needs
+
+loop-again : tie.Need-loop-again Inv-loop μ-loop
+loop-again c =
+    let a = c .before .before .before .before in (
+      omega arith,
+      rw (c .better .ensures) (searched-more _ (a .loop .i) (a .loop .best) (c .before .run .result) (a .loop .inv .1) (rw (least-is a) at (c .before .run .ensures))),
+    )
+
+returns : tie.Need-returns Inv-loop μ-loop
+returns c =
+    let a = c .before in
+    let s = a .before .before .before .before .before in
+    let q : a .loop .i ≡ suc (s .args .n - s .args .len) = omega arith in
+    a .loop .inv .1 .same ∙ ap (soFar (runs (s .args .h .now) (s .args .closeness) (s .args .separators .now) (s .args .peaks .now) (s .args .n) (s .args .len))) q
+    ∙ searched-all (s .args .closeness) (lineReader (s .args .h .now)) (s .args .separators .now) (s .args .peaks .now) (s .args .n) (s .args .len)
+
+pub cheapest-below-spec : {M : Type 1} → statement M
+cheapest-below-spec =
+    tie.close
+    (tie.spec
+    Inv-loop
+    μ-loop
+    nothing-requires
+    loop-holds
+    add-loop
+    run-requires
+    better-requires
+    add-i
+    loop-less
+    loop-again
+    returns)

@@ -1,0 +1,78 @@
+-- Demand 3 on one histogram: no run of modes can still be joined, each mode is a single hump, each bin lies in exactly one mode,
+-- and behind every verdict stands its fit. Assumes nothing.
+use Prim.Native.Nat.{ℕ, suc, _+_, _-_, _≤_, _<_}
+use mathlib.Core.Path.{_≡_}
+use mathlib.Core.Bool.{false}
+use mathlib.Core.List.{List}
+use lib.Dec.{eqb}
+use lib.ListN.{length}
+use lib.IntN.{pos}
+use lib.Signed.{_≤ℤ_}
+use Rattle.lists.specs.Lists.{total, countIf, ExactlyOne}
+use Rattle.pooling.specs.Blocks.{Direction, increasing, decreasing}
+use Rattle.verdict.specs.Test.{Closeness, rejected}
+use Rattle.verdict.specs.Exactness.{VerdictSound}
+use Rattle.segmentation.specs.Segments.{Segment, segmentAt, binAt, inMode}
+use Rattle.segmentation.specs.Joining.{Reader, lineReader, riseOf, fallOf, riseCost, fallCost, lineModes, lineSeparators}
+use Rattle.segmentation.specs.Ring.{opening, opened, ringBin, linePlace, ringModes, ringSeparators, inRingMode}
+
+-- a line of so many bins is cut into the modes ss: they follow one another from bin 0 to the last bin, and each has its peak between its separators
+pub record Cut (bins : ℕ) (ss : List Segment) : Type 0 where
+  pub nonEmpty : 0 < length ss
+  pub fromFirstBin : segmentAt ss 0 .start ≡ 0
+  pub toLastBin : suc (segmentAt ss (length ss - 1) .end) ≡ bins
+  pub adjacent : (m : ℕ) → suc m < length ss → segmentAt ss m .end ≡ segmentAt ss (suc m) .start
+  pub ascending : (m : ℕ) → m < length ss → segmentAt ss m .start < segmentAt ss m .end
+  pub peakInside : (m : ℕ) → m < length ss → (segmentAt ss m .start ≤ segmentAt ss m .peak) × (segmentAt ss m .peak ≤ segmentAt ss m .end)
+
+-- a hump is document 01's own term: 'a single hump when neither its rise (separator to kept peak) nor its fall (kept peak to next separator) is rejected'
+pub record SingleHump (e : Closeness) (read : Reader) (ss : List Segment) (m : ℕ) : Type 0 where
+  pub rise : rejected e increasing (riseOf read ss m 1) ≡ false
+  pub fall : rejected e decreasing (fallOf read ss m 1) ≡ false
+
+-- a line of so many bins, with this reader of its stretches and with the modes ss
+pub record Finished (e : Closeness) (read : Reader) (bins : ℕ) (ss : List Segment) : Type 0 where
+  pub cut : Cut bins ss
+  -- 'A run of two or more can still be joined when the smaller of its two costs is below 0': of no start i and no length n
+  pub noneJoinable : (i n : ℕ) → 2 ≤ n → i + n ≤ length ss → (pos 0 ≤ℤ riseCost e read ss i n) × (pos 0 ≤ℤ fallCost e read ss i n)
+  pub humps : (m : ℕ) → m < length ss → SingleHump e read ss m
+  pub oneMode : (b : ℕ) → b < bins → ExactlyOne (length ss) (λ m. inMode ss m b)
+  -- behind the verdict of every stretch, in either direction: those of the runs and the humps are among them
+  pub verdicts : (w : Direction) (i j : ℕ) → i ≤ j → j < bins → VerdictSound e w (read i j)
+
+pub record LineFinished (e : Closeness) (h : List ℕ) : Type 0 where
+  pub finished : Finished e (lineReader h) (length h) (lineModes e h)
+  -- 'a line's separators rise'
+  pub rising : (i : ℕ) → suc i < length (lineSeparators e h) → binAt (lineSeparators e h) i < binAt (lineSeparators e h) (suc i)
+
+-- a ring is judged on its opened line; its own bins are those of the line without the repeated end
+pub record RingFinished (e : Closeness) (h : List ℕ) : Type 0 where
+  -- 'its lowest bin (lowest-numbered of equals)'
+  pub inRing : opening h < length h
+  pub lowest : (b : ℕ) → b < length h → binAt h (opening h) ≤ binAt h b
+  pub lowestNumbered : (b : ℕ) → b < opening h → binAt h (opening h) < binAt h b
+  -- the line is the ring from that bin on, with it repeated after the end
+  pub openedLength : length (opened h) ≡ suc (length h)
+  pub openedBins : (i : ℕ) → i ≤ length h → binAt (opened h) i ≡ binAt h (ringBin h i)
+  -- each bin of the ring has one place on the line, and sits there
+  pub place : (b : ℕ) → b < length h → (linePlace h b < length h) × (ringBin h (linePlace h b) ≡ b)
+  pub sameBin : (b : ℕ) → b < length h → binAt (opened h) (linePlace h b) ≡ binAt h b
+  pub line : LineFinished e (opened h)
+  pub oneMode : (b : ℕ) → b < length h → ExactlyOne (length (ringModes e h)) (λ m. inRingMode e h m b)
+
+-- 'whatever the order, each stands in the list exactly once': the list is a permutation of the ring's separators, and none stands in it twice
+pub record ListsOnce (e : Closeness) (h : List ℕ) (list : List ℕ) : Type 0 where
+  pub same : (b : ℕ) → countIf (eqb b) list ≡ countIf (eqb b) (ringSeparators e h)
+  pub once : (b : ℕ) → countIf (eqb b) list ≤ 1
+
+-- proved in proofs/Always. The bounds are those of a line call and of the opened line of a ring call
+abbrev pub AlwaysFinished : Type 0
+AlwaysFinished = (e : Closeness) (h : List ℕ) → 2 ≤ length h → length h ≤ 257 → total h ≤ 98304 → LineFinished e h
+
+-- proved in proofs/Always
+abbrev pub RingAlwaysFinished : Type 0
+RingAlwaysFinished = (e : Closeness) (h : List ℕ) → 2 ≤ length h → length h ≤ 256 → total h ≤ 65536 → RingFinished e h
+
+-- proved in proofs/Always: the ring's separators, in the order from the opening, are such a list
+abbrev pub RingAlwaysListed : Type 0
+RingAlwaysListed = (e : Closeness) (h : List ℕ) → 2 ≤ length h → ListsOnce e h (ringSeparators e h)

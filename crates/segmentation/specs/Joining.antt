@@ -1,0 +1,83 @@
+-- Document 01, 'Modes of a line of bins': the joins. Assumes nothing.
+--   Reader         the bins of a stretch, from bin i to bin j; of a line, its parts
+--   riseOf, fallOf the two stretches of a run of n segments from number i; of a run of one, a mode's rise and fall
+--   Join           a run that may be joined, and the cost that counts
+--   nextJoin       the join that comes next, if any
+--   lineModes      what is left when there is none
+use Prim.Native.Nat.{ℕ, zero, suc, _+_, _-_}
+use mathlib.Core.Bool.{Bool, cond}
+use mathlib.Core.List.{List, [], _∷_, _++_, map}
+use mathlib.Core.Option.{Option}
+use lib.ListN.{length, take, drop}
+use lib.IntN.{ℤ, pos}
+use lib.Signed.{ltZ}
+use Rattle.lists.specs.Lists.{part, numbers, firstLowest, firstThat, maybe}
+use Rattle.pooling.specs.Blocks.{increasing, decreasing}
+use Rattle.verdict.specs.Test.{Closeness, cost}
+use Rattle.segmentation.specs.Segments.{Segment, segmentAt, firstSegments}
+-- the run of len segments from number first; whether its rise is what counts, or its fall; and that one's cost
+pub use Rattle.segmentation.specs.declared.Join.{Join}
+
+abbrev pub Reader : Type 0
+Reader = ℕ → ℕ → List ℕ
+
+abbrev pub lineReader : List ℕ → Reader
+lineReader h i j = part i j h
+
+-- the last segment of a run, which has one or more: the difference is never negative
+abbrev pub lastIn : List Segment → ℕ → ℕ → Segment
+lastIn ss i n = segmentAt ss (i + n - 1)
+
+-- 'first separator to last peak'
+unfoldable pub riseOf : Reader → List Segment → ℕ → ℕ → List ℕ
+riseOf read ss i n = read (segmentAt ss i .start) (lastIn ss i n .peak)
+
+-- 'first peak to last separator'
+unfoldable pub fallOf : Reader → List Segment → ℕ → ℕ → List ℕ
+fallOf read ss i n = read (segmentAt ss i .peak) (lastIn ss i n .end)
+
+-- 'drop its inner separators, keep the last peak for a rise, the first for a fall'
+unfoldable pub joined : List Segment → Join → Segment
+joined ss j = record {
+  start = segmentAt ss (j .first) .start;
+  peak = cond (j .rise) (lastIn ss (j .first) (j .len) .peak) (segmentAt ss (j .first) .peak);
+  end = lastIn ss (j .first) (j .len) .end;
+}
+
+unfoldable pub join : List Segment → Join → List Segment
+join ss j = take (j .first) ss ++ joined ss j ∷ drop (j .first + j .len) ss
+
+module _ (e : Closeness) (read : Reader) (ss : List Segment) where
+  unfoldable pub riseCost : ℕ → ℕ → ℤ
+  riseCost i n = cost e increasing (riseOf read ss i n)
+
+  unfoldable pub fallCost : ℕ → ℕ → ℤ
+  fallCost i n = cost e decreasing (fallOf read ss i n)
+
+  -- 'The smaller counts, the fall if equal'
+  unfoldable pub joinOf : ℕ → ℕ → Join
+  joinOf i n =
+      let r = riseCost i n in
+      let f = fallCost i n in
+      record { first = i; len = n; rise = ltZ r f; cost = cond (ltZ r f) r f }
+
+  -- of all runs of n segments the first with the lowest cost: 'leftmost of equals'. n is at most the number of segments: the difference is never negative
+  unfoldable pub cheapest : ℕ → Join
+  cheapest n = joinOf (firstLowest (length ss - n) (λ i. joinOf i n .cost)) n
+
+  -- 'For runs of 2 segments, then 3, and so on': of the first length whose lowest cost is below 0
+  unfoldable pub nextJoin : Option Join
+  nextJoin = firstThat (λ (j : Join). ltZ (j .cost) (pos 0)) (map cheapest (numbers 2 (length ss - 1)))
+
+-- 'After a join start again with runs of 2'. Each join drops a segment or more, so as many steps as segments are enough
+unfoldable pub joinAll : ℕ → Closeness → Reader → List Segment → List Segment
+joinAll zero e read ss = ss
+joinAll (suc k) e read ss = maybe ss (λ j. joinAll k e read (join ss j)) (nextJoin e read ss)
+
+-- the modes of a line of bins
+unfoldable pub lineModes : Closeness → List ℕ → List Segment
+lineModes e h = joinAll (length (firstSegments h)) e (lineReader h) (firstSegments h)
+
+-- the separators of a line: where its modes start, and the last bin
+unfoldable pub lineSeparators : Closeness → List ℕ → List ℕ
+lineSeparators e h = map (λ (s : Segment). s .start) (lineModes e h) ++ (length h - 1) ∷ []

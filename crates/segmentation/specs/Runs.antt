@@ -1,0 +1,40 @@
+-- What the search for the next join goes by. No public promise cites it. Assumes nothing.
+use Prim.Native.Nat.{ℕ, _^_, _≤_, _<_}
+use mathlib.Core.Path.{_≡_}
+use mathlib.Core.Bool.{true, false, cond}
+use mathlib.Core.List.{List}
+use mathlib.Core.Option.{Option, none, some}
+use lib.ListN.{length}
+use lib.IntN.{ℤ, pos}
+use lib.Signed.{ltZ, mag, _≤ℤ_}
+use Rattle.verdict.specs.Test.{Closeness, mostCloseness}
+use Rattle.verdict.specs.Tables.{Small}
+use Rattle.segmentation.specs.declared.Found.{Found}
+use Rattle.segmentation.specs.Joining.{Join}
+use Rattle.segmentation.specs.Finished.{Cut}
+use Rattle.segmentation.specs.Held.{segmentsHeld}
+
+-- a line h whose n segments the two lists hold
+pub record LineHeld (e : Closeness) (h separators peaks : List ℕ) (n : ℕ) : Type 0 where
+  pub small : Small h
+  pub close : e ≤ mostCloseness
+  pub places : (n < length separators) × (n ≤ length peaks)
+  pub cut : Cut (length h) (segmentsHeld separators peaks 0 n)
+
+-- what the code gives for the run j when only a cost below `least` matters: such a run exactly, and for any other one that is not below `least`
+pub record RunBelow (least : ℤ) (j r : Join) : Type 0 where
+  pub below : ltZ (j .cost) least ≡ true → r ≡ j
+  pub above : ltZ (j .cost) least ≡ false → least ≤ℤ r .cost
+  pub small : mag (r .cost) < 2 ^ 62
+
+-- 'The smaller counts, the fall if equal'
+abbrev pub joinBy : ℕ → ℕ → ℤ → ℤ → Join
+joinBy i n rise fall = record { first = i; len = n; rise = ltZ rise fall; cost = cond (ltZ rise fall) rise fall }
+
+-- a run takes the place of what was found where its cost is lower: 'leftmost of equals'
+unfoldable pub betterOf : Found → Join → Found
+betterOf best next = cond (ltZ (next .cost) (best .join .cost)) (record { found = true; join = next }) best
+
+-- 'can still be joined when the smaller of its two costs is below 0'
+abbrev pub whereBelow : Join → Option Join
+whereBelow j = cond (ltZ (j .cost) (pos 0)) (some j) none

@@ -1,0 +1,78 @@
+// Joining a run of segments in place, and joining until nothing is left to join.
+use crate::Join;
+use crate::first::first_segments;
+use crate::runs::next_join;
+ghost use mathlib.Core.Path.{_≡_};
+ghost use Prim.Native.Nat.{_+_, _-_, _≤_, _<_};
+ghost use lib.ListN.{length, drop};
+ghost use lib.Seq.{paste};
+ghost use Rattle.verdict.specs.Test.{mostCloseness};
+ghost use Rattle.verdict.specs.Tables.{Small};
+ghost use Rattle.segmentation.specs.Joining.{lineReader, join, joinAll, lineModes};
+ghost use Rattle.segmentation.specs.Held.{segmentsHeld};
+ghost use Rattle.segmentation.specs.Finished.{Cut};
+
+// The members from number `from` up to the one before `end` move down, to number `to` on.
+fn shift(a: &mut [u32], to: usize, from: usize, end: usize)
+    requires { ⌜ (to ≤ from) × (from ≤ end) × (end ≤ length (now a)) ⌝ }
+    ensures { λ _. ⌜ now (a .exit) ≡ paste (now (a .entry)) to (drop from (now (a .entry))) (end - from) ⌝ }
+{
+    let n = end - from;
+    let mut k = 0;
+    while k < n {
+        a[to + k] = a[from + k];
+        k += 1;
+    }
+}
+
+// Joins a run of the n segments in place: how many there are then.
+// Without its inner separators what follows moves down; of its peaks the last stays for a rise, the first for a fall.
+pub fn apply(separators: &mut [u32], peaks: &mut [u32], n: usize, j: Join) -> usize
+    requires { ⌜ (2 ≤ j .len) × (j .first + j .len ≤ n) × (n < length (now separators)) × (n ≤ length (now peaks)) ⌝ }
+    ensures { λ r. ⌜ (segmentsHeld (now (separators .exit)) (now (peaks .exit)) 0 r ≡ join (segmentsHeld (now (separators .entry)) (now (peaks .entry)) 0 n) j)
+        × (r ≡ n - (j .len - 1)) ⌝ }
+{
+    let at = j.first;
+    let fewer = j.len - 1;
+    let kept = if j.rise { at } else { at + 1 };
+    shift(separators, at + 1, at + 1 + fewer, n + 1);
+    shift(peaks, kept, kept + fewer, n);
+    n - fewer
+}
+
+// Joins until nothing is left to join: how many segments there are then.
+pub fn join_all(
+    h: &[u32],
+    closeness: u32,
+    separators: &mut [u32],
+    peaks: &mut [u32],
+    n: usize,
+) -> usize
+    requires { ⌜ Small (now h) ⌝ }
+    requires { ⌜ closeness ≤ mostCloseness ⌝ }
+    requires { ⌜ (n < length (now separators)) × (n ≤ length (now peaks)) ⌝ }
+    requires { ⌜ Cut (length (now h)) (segmentsHeld (now separators) (now peaks) 0 n) ⌝ }
+    ensures { λ r. ⌜ (segmentsHeld (now (separators .exit)) (now (peaks .exit)) 0 r
+        ≡ joinAll n closeness (lineReader (now (h .entry))) (segmentsHeld (now (separators .entry)) (now (peaks .entry)) 0 n))
+        × (r ≤ n) ⌝ }
+{
+    let mut left = n;
+    loop {
+        let next = next_join(h, closeness, separators, peaks, left);
+        if !next.found {
+            return left;
+        }
+        left = apply(separators, peaks, left, next.join);
+    }
+}
+
+// The modes of a line: how many there are.
+pub fn line(h: &[u32], closeness: u32, separators: &mut [u32], peaks: &mut [u32]) -> usize
+    requires { ⌜ Small (now h) ⌝ }
+    requires { ⌜ (2 ≤ length (now h)) × (closeness ≤ mostCloseness) ⌝ }
+    requires { ⌜ (length (now h) ≤ length (now separators)) × (length (now h) ≤ length (now peaks)) ⌝ }
+    ensures { λ r. ⌜ segmentsHeld (now (separators .exit)) (now (peaks .exit)) 0 r ≡ lineModes closeness (now (h .entry)) ⌝ }
+{
+    let n = first_segments(h, separators, peaks);
+    join_all(h, closeness, separators, peaks, n)
+}

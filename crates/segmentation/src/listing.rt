@@ -1,0 +1,57 @@
+// The separators of a line and of a ring, in the first places of a lent list.
+use crate::joins::line;
+use crate::rings::open_ring;
+use crate::rings::ring_numbers;
+use pooling::MOST_BINS;
+ghost use mathlib.Core.Path.{_≡_};
+ghost use Prim.Native.Nat.{_≤_};
+ghost use lib.ListN.{length, take};
+ghost use Rattle.lists.specs.Lists.{total, over};
+ghost use Rattle.verdict.specs.Test.{mostCloseness};
+ghost use Rattle.verdict.specs.Tables.{Small};
+ghost use Rattle.segmentation.specs.Joining.{lineSeparators};
+ghost use Rattle.segmentation.specs.Ring.{ringSeparators};
+
+// The first n members of one list, in the first places of another.
+fn copy_first(source: &[u32], n: usize, list: &mut [u32])
+    requires { ⌜ (n ≤ length (now source)) × (n ≤ length (now list)) ⌝ }
+    ensures { λ _. ⌜ now (list .exit) ≡ over (take n (now (source .entry))) (now (list .entry)) ⌝ }
+{
+    let mut i = 0;
+    while i < n {
+        list[i] = source[i];
+        i += 1;
+    }
+}
+
+// The separators of a line: how many there are.
+pub fn line_separators(h: &[u32], closeness: u32, list: &mut [u32]) -> u32
+    requires { ⌜ Small (now h) ⌝ }
+    requires { ⌜ (2 ≤ length (now h)) × (closeness ≤ mostCloseness) × (length (now h) ≤ length (now list)) ⌝ }
+    ensures { λ r. ⌜ (r ≡ length (lineSeparators closeness (now (h .entry))))
+        × (now (list .exit) ≡ over (lineSeparators closeness (now (h .entry))) (now (list .entry))) ⌝ }
+{
+    let mut separators = [0u32; MOST_BINS];
+    let mut peaks = [0u32; MOST_BINS];
+    let n = line(h, closeness, &mut separators, &mut peaks);
+    copy_first(&separators, n + 1, list);
+    (n + 1) as u32
+}
+
+// The separators of a ring, from its opening on: how many there are.
+pub fn ring_separators(h: &[u32], closeness: u32, list: &mut [u32]) -> u32
+    requires { ⌜ (2 ≤ length (now h)) × (length (now h) ≤ 256) × (total (now h) ≤ 65536) ⌝ }
+    requires { ⌜ (closeness ≤ mostCloseness) × (length (now h) ≤ length (now list)) ⌝ }
+    ensures { λ r. ⌜ (r ≡ length (ringSeparators closeness (now (h .entry))))
+        × (now (list .exit) ≡ over (ringSeparators closeness (now (h .entry))) (now (list .entry))) ⌝ }
+{
+    let mut opened = [0u32; MOST_BINS];
+    let mut separators = [0u32; MOST_BINS];
+    let mut peaks = [0u32; MOST_BINS];
+    let bins = h.len();
+    let opening = open_ring(h, &mut opened);
+    let end = bins + 1;
+    let n = line(&opened[..end], closeness, &mut separators, &mut peaks);
+    ring_numbers(&separators, n, opening, bins, list);
+    n as u32
+}

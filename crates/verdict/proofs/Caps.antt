@@ -1,0 +1,182 @@
+-- The best weight that a search stops with, as far as a limit, gives the cost as far as a cap. Assumes nothing.
+use Prim.Native.Nat.{ℕ, zero, suc, _+_, _*_, _-_, _^_, _≤_, _<_}
+use mathlib.Core.Path.{_≡_, refl, sym, ap, ap₂, _∙_}
+use mathlib.Core.Bool.{Bool, true, false, cond, false≢true}
+use mathlib.Core.Logic.{_⊎_, inl, inr, ⊎-elim}
+use mathlib.Core.List.{List}
+use native.Mathlib.Omega.{arith}
+use lib.Dec.{leb→le, leb·suc-suc}
+use lib.ListN.{length, getD}
+use lib.IntN.{ℤ, pos, negsuc, sucℤ, predℤ, negℤ, _+ℤ_, _-ℤ_, +ℤ-idr, +ℤ-sucℤ, sucℤ-+ℤ, +ℤ-predℤ}
+use mir.Syntax.{w64}
+use mir.Val.{SFits}
+use lib.Signed.{ltZ, mag, _≤ℤ_, ≤ℤ-refl, ltZ-yes, clashℤ}
+use borrow.Author.Tests.{lt-ltb, le-ltb}
+use Rattle.lists.specs.Lists.{total, part}
+use Rattle.lists.proofs.Cases.{by-cond, by-order}
+use Rattle.lists.proofs.Signed.{le-trans-ℤ, lt-le-ℤ, nlt-le-ℤ, le-antisym-ℤ, le-lt-ℤ, difference-is, difference-below}
+use Rattle.pooling.specs.declared.Block.{Block}
+use Rattle.pooling.specs.declared.Place.{Place}
+use Rattle.pooling.specs.Blocks.{Direction, blocks}
+use Rattle.pooling.proofs.Laws.{blocks-cut}
+use Rattle.verdict.specs.Test.{Closeness, mostCloseness, fittedMass, weight, partWeight, largestWeight, bar, cost}
+use Rattle.verdict.specs.Tables.{Small, PlacesHeld, Capped, Attained, BestOf, EndingAt, firstOf, endOf, Turn, Part}
+use Rattle.verdict.proofs.Machine.{difference-fits}
+use Rattle.verdict.proofs.Range.{in-range}
+use Rattle.verdict.proofs.Largest.{largest-part, part-largest}
+use Rattle.verdict.proofs.Masses.{bin-place}
+use Rattle.verdict.proofs.Sizes.{weight-small, bar-small}
+
+-- ---- signed numbers
+-- the larger of two is not below the first
+pub larger-above : (x y z : ℤ) → z ≡ cond (ltZ x y) y x → x ≤ℤ z
+larger-above x y z e = rw e (by-cond (λ (z : ℤ). x ≤ℤ z) (ltZ x y) y x (λ e. lt-le-ℤ x y e) (λ e. ≤ℤ-refl x))
+
+less-one : (z c : ℤ) → ltZ (predℤ z) c ≡ ltZ z (sucℤ c)
+less-one (pos zero) (pos c) = sym (lt-ltb 0 (suc c) (omega arith))
+less-one (pos zero) (negsuc zero) = refl
+less-one (pos zero) (negsuc (suc c)) = le-ltb (suc c) 0 (omega arith)
+less-one (pos (suc a)) (pos c) = sym (leb·suc-suc (suc a) c)
+less-one (pos (suc a)) (negsuc zero) = sym (le-ltb (suc a) 0 (omega arith))
+less-one (pos (suc a)) (negsuc (suc c)) = refl
+less-one (negsuc a) (pos c) = refl
+less-one (negsuc a) (negsuc zero) = lt-ltb 0 (suc a) (omega arith)
+less-one (negsuc a) (negsuc (suc c)) = leb·suc-suc (suc c) a
+
+-- z less b is below c exactly when z is below c and b more
+pub less-below : (z c : ℤ) (b : ℕ) → ltZ (z -ℤ pos b) c ≡ ltZ z (c +ℤ pos b)
+less-below z c zero = ap₂ ltZ (+ℤ-idr z) (sym (+ℤ-idr c))
+less-below z c (suc b) =
+    ap (λ (x : ℤ). ltZ x c) (one-less z b) ∙ less-one (z -ℤ pos b) c ∙ less-below z (sucℤ c) b
+    ∙ ap (ltZ z) (sucℤ-+ℤ c (pos b) ∙ sym (+ℤ-sucℤ c (pos b)))
+  where
+    negative : (b : ℕ) → negsuc b ≡ predℤ (negℤ (pos b))
+    negative zero = refl
+    negative (suc b) = refl
+
+    one-less : (z : ℤ) (b : ℕ) → z -ℤ pos (suc b) ≡ predℤ (z -ℤ pos b)
+    one-less z b = ap (λ (x : ℤ). z +ℤ x) (negative b) ∙ +ℤ-predℤ z (negℤ (pos b))
+
+-- a weight less the bar
+pub less-small : (z : ℤ) (b : ℕ) → mag z < 2 ^ 62 - 2 ^ 46 → b ≤ 2 ^ 46 → mag (z -ℤ pos b) < 2 ^ 62
+less-small (pos a) b h k = rw (difference-is a b) (difference-below a b (2 ^ 62) (omega arith) (omega arith))
+less-small (negsuc a) zero h k = difference-below 0 (suc a) (2 ^ 62) (omega arith) (omega arith)
+less-small (negsuc a) (suc b) h k = omega arith
+
+pub sum-fits : (x : ℤ) (b : ℕ) → mag x < 2 ^ 62 → b < 2 ^ 62 → SFits w64 (x +ℤ pos b)
+sum-fits (pos a) b h k = record { sfits = omega arith }
+sum-fits (negsuc a) b h k = difference-fits b (suc a) (omega arith) (omega arith)
+
+-- ---- a weight that is attained is small
+pub attained-small : (w : Direction) (h : List ℕ) → Small h → (r : ℤ) → Attained h (blocks w h) r → mag r < 2 ^ 62 - 2 ^ 46
+unfolding partWeight
+attained-small w h small r a =
+    let i = a .first in
+    let j = a .last in
+    rw (a .weight)
+    (weight-small (total h) (total (part i j h)) (fittedMass h (blocks w h) i j) (in-range w h (small .bins) (small .counts) i j (a .ends .0) (a .ends .1)) (small .counts))
+
+-- ---- a bin's block starts at the bin or before it
+pub start-le : (w : Direction) (h starts sums lens : List ℕ) (j : ℕ) → PlacesHeld w h starts sums lens → j < length h → getD starts j 0 ≤ j
+start-le w h starts sums lens j held l = omega (arith, ap (λ (p : Place). p .start) (held j l), bin-place (blocks-cut w h) j l)
+
+pub end-le : (within : Bool) (start j : ℕ) → start ≤ j → endOf within start j ≤ suc j
+end-le true start j l = omega arith
+end-le false start j l = omega arith
+
+-- ---- the best of the parts visited
+module _ (h : List ℕ) (bs : List Block) (limit : ℤ) where
+  -- none is visited
+  pub best-none : {visited : ℕ → ℕ → Type 0} {r : ℤ} → Attained h bs r → ((i j : ℕ) → visited i j → ⊥) → BestOf h bs limit visited r
+  best-none a none = record { attained = a; bounds = λ e i j v. absurd (none i j v) }
+
+  -- no other is visited
+  pub best-same : {some all : ℕ → ℕ → Type 0} {r : ℤ} → BestOf h bs limit some r → ((i j : ℕ) → all i j → some i j) → BestOf h bs limit all r
+  best-same b within = record { attained = b .attained; bounds = λ e i j v. b .bounds e i j (within i j v) }
+
+  -- the limit is reached: the others need no visit
+  pub best-stops : {some all : ℕ → ℕ → Type 0} {r : ℤ} → BestOf h bs limit some r → ltZ r limit ≡ false → BestOf h bs limit all r
+  best-stops b e = record { attained = b .attained; bounds = λ f i j v. absurd (false≢true (sym e ∙ f)) }
+
+  -- more are visited, and the best is raised
+  pub best-raised : {some more all : ℕ → ℕ → Type 0} {r s : ℤ} → BestOf h bs limit some r → r ≤ℤ s → BestOf h bs limit more s
+      → ((i j : ℕ) → all i j → some i j ⊎ more i j) → BestOf h bs limit all s
+  best-raised {r = r} {s = s} b u c either = record {
+    attained = c .attained;
+    bounds = λ e i j v. ⊎-elim
+        (λ x. le-trans-ℤ (partWeight h bs i j) r s (b .bounds (le-lt-ℤ r s limit u e) i j x) u)
+        (λ x. c .bounds e i j x)
+        (either i j v);
+  }
+
+  -- one part is visited
+  best-one : (i j : ℕ) (r : ℤ) → i ≤ j → j < length h → Attained h bs r
+      → BestOf h bs limit (EndingAt j i (i + 1)) (cond (ltZ r (partWeight h bs i j)) (partWeight h bs i j) r)
+  best-one i j r k l a =
+      by-cond (λ (z : ℤ). BestOf h bs limit (EndingAt j i (i + 1)) z) (ltZ r (partWeight h bs i j)) (partWeight h bs i j) r
+      (λ e. record {
+        attained = record { first = i; last = j; ends = (k, l); weight = refl };
+        bounds = λ f i' j' v. same i' j' v (≤ℤ-refl (partWeight h bs i j));
+      })
+      (λ e. record { attained = a; bounds = λ f i' j' v. same i' j' v (nlt-le-ℤ r (partWeight h bs i j) e) })
+    where
+      same : (i' j' : ℕ) → EndingAt j i (i + 1) i' j' → {z : ℤ} → partWeight h bs i j ≤ℤ z → partWeight h bs i' j' ≤ℤ z
+      same i' j' v u =
+          let a : i' ≡ i = omega arith in
+          let b : j' ≡ j = omega arith in
+          rw (a, b) u
+
+  -- one part more, of those that end at bin j
+  pub best-more : (first i j : ℕ) (r x s : ℤ) → i ≤ j → j < length h → BestOf h bs limit (EndingAt j first i) r
+      → x ≡ partWeight h bs i j → s ≡ cond (ltZ r x) x r → BestOf h bs limit (EndingAt j first (i + 1)) s
+  best-more first i j r x s k l b e f =
+      let g : s ≡ cond (ltZ r (partWeight h bs i j)) (partWeight h bs i j) r = rw e at f in
+      best-raised {more = EndingAt j i (i + 1)} b (larger-above r x s f) (rw g (best-one i j r k l (b .attained)))
+      (λ a m v. by-order a i (λ u. inl (omega arith)) (λ u. inr (omega arith)))
+
+  -- the parts of one bin more, in a turn
+  pub best-bin : (within : Bool) (starts : List ℕ) (j first end : ℕ) {r s : ℤ}
+      → first ≡ firstOf within (getD starts j 0) → end ≡ endOf within (getD starts j 0) j
+      → BestOf h bs limit (Turn within starts j) r → r ≤ℤ s → BestOf h bs limit (EndingAt j first end) s → BestOf h bs limit (Turn within starts (j + 1)) s
+  best-bin within starts j first end f g b u c =
+      best-raised b u c
+      (λ i m v. by-order m j (λ l. inl (l, v .1, v .2)) (λ l. let e : m ≡ j = omega arith in inr (e, rw (e, ← f) at (v .1), rw (e, ← g) at (v .2))))
+
+  -- both turns
+  pub best-turns : (starts : List ℕ) {r s : ℤ} → BestOf h bs limit (Turn true starts (length h)) r → r ≤ℤ s
+      → BestOf h bs limit (Turn false starts (length h)) s → BestOf h bs limit (Part h) s
+  best-turns starts b u c =
+      best-raised b u c (λ i j v. by-order i (getD starts j 0) (λ l. inr (v .1, omega arith, l)) (λ l. inl (v .1, l, omega arith)))
+
+  -- all are visited: the best is the largest where that is below the limit, else it reaches the limit
+  module _ (some : 0 < length h) (r : ℤ) (b : BestOf h bs limit (Part h) r) where
+    best-le : r ≤ℤ largestWeight h bs
+    best-le = let a = b .attained in rw (a .weight) (part-largest h bs (a .first) (a .last) (a .ends .0) (a .ends .1))
+
+    best-ge : ltZ r limit ≡ true → largestWeight h bs ≤ℤ r
+    best-ge e = let p = largest-part h bs some in rw (p .4) (b .bounds e (p .0) (p .1) (p .2, p .3))
+
+    pub best-largest : ltZ (largestWeight h bs) limit ≡ true → r ≡ largestWeight h bs
+    best-largest e = le-antisym-ℤ r (largestWeight h bs) best-le (best-ge (le-lt-ℤ r (largestWeight h bs) limit best-le e))
+
+    pub best-reaches : ltZ (largestWeight h bs) limit ≡ false → ltZ r limit ≡ false
+    best-reaches e = go (ltZ r limit) refl
+      where
+        go : (t : Bool) → ltZ r limit ≡ t → t ≡ false
+        go false f = refl
+        go true f = absurd (false≢true (sym e ∙ le-lt-ℤ (largestWeight h bs) r limit (best-ge f) f))
+
+-- ---- the cost
+pub capped-cost-is : (e : Closeness) (w : Direction) (h : List ℕ) (cap r : ℤ) → Small h → 1 ≤ length h → e ≤ mostCloseness
+    → BestOf h (blocks w h) (cap +ℤ pos (bar e (length h))) (Part h) r
+    → Capped cap (cost e w h) (r -ℤ pos (bar e (length h)))
+unfolding cost
+capped-cost-is e w h cap r small some close best =
+    let height = bar e (length h) in
+    let limit = cap +ℤ pos height in
+    let largest = largestWeight h (blocks w h) in
+    record {
+      below = λ f. ap (λ (z : ℤ). z -ℤ pos height) (best-largest h (blocks w h) limit some r best (sym (less-below largest cap height) ∙ f));
+      above = λ f. nlt-le-ℤ (r -ℤ pos height) cap (less-below r cap height ∙ best-reaches h (blocks w h) limit some r best (sym (less-below largest cap height) ∙ f));
+      small = less-small r height (attained-small w h small r (best .attained)) (bar-small e (length h) close some (small .bins));
+    }

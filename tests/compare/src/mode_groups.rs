@@ -1,0 +1,293 @@
+//! The named groups of lines and rings, each of which is one test.
+
+use crate::mode_shapes;
+use crate::mode_ties::MODE_TIES;
+use crate::random::Random;
+use crate::shapes::{self, Shape, SHAPES};
+use reference::calls::{MOST_BINS, MOST_CLOSENESS};
+
+/// A histogram, the closeness, and how many places are lent for its separators.
+pub struct ModesCase {
+    pub histogram: Vec<u32>,
+    pub closeness: u32,
+    pub places: usize,
+}
+
+/// Where a group's histograms come from.
+pub enum ModesSource {
+    /// A list, the same length in every run.
+    List(fn(&mut Random) -> Vec<ModesCase>),
+    /// Drawn of one shape, so many hundredths of the count.
+    Draw(Shape, usize),
+}
+
+use ModesSource::{Draw, List};
+
+pub const LINES: [(&str, ModesSource); 21] = [
+    ("samples of the paper", List(samples)),
+    ("every small line", List(every_small)),
+    ("two bins", List(two_bins)),
+    ("all zero and all equal", List(all_equal)),
+    ("cost 0 and next to it", List(ties)),
+    ("grounds", List(grounds)),
+    ("places of the list", List(places)),
+    ("every closeness 0 to 22", List(every_closeness)),
+    ("256 and 257 bins", List(longest)),
+    ("cloths of 42, 52 and 60 bins", List(cloths)),
+    ("few levels", Draw(mode_shapes::few_levels, 15)),
+    ("periods", Draw(mode_shapes::periods, 10)),
+    ("noise", Draw(shapes::noise, 15)),
+    ("sparse", Draw(shapes::sparse, 8)),
+    ("plateaus", Draw(shapes::plateaus, 8)),
+    ("equal means", Draw(shapes::equal_means, 6)),
+    ("spikes", Draw(shapes::spikes, 4)),
+    ("alternating", Draw(shapes::alternating, 6)),
+    ("humps", Draw(shapes::hump, 4)),
+    ("sums around 65,536", Draw(shapes::near_the_limit, 3)),
+    ("huge counts", Draw(shapes::huge, 1)),
+];
+
+pub const RINGS: [(&str, ModesSource); 20] = [
+    ("samples of the paper", List(samples)),
+    ("every small ring", List(every_small)),
+    ("two bins", List(two_bins)),
+    ("all zero and all equal", List(all_equal)),
+    ("cost 0 and next to it", List(ties)),
+    ("grounds", List(grounds)),
+    ("places of the list", List(places)),
+    ("every closeness 0 to 22", List(every_closeness)),
+    ("256 and 257 bins", List(longest)),
+    ("cloths of 42, 52 and 60 bins", List(cloths)),
+    ("lowest bin repeated", Draw(mode_shapes::lowest_repeated, 6)),
+    (
+        "flat lowest over the seam",
+        Draw(mode_shapes::lowest_over_the_seam, 6),
+    ),
+    ("opened away from 0", Draw(mode_shapes::turned, 6)),
+    ("few levels", Draw(mode_shapes::few_levels, 4)),
+    ("noise", Draw(shapes::noise, 3)),
+    ("sparse", Draw(shapes::sparse, 2)),
+    ("plateaus", Draw(shapes::plateaus, 2)),
+    ("alternating", Draw(shapes::alternating, 2)),
+    ("sums around 65,536", Draw(shapes::near_the_limit, 1)),
+    ("huge counts", Draw(shapes::huge, 1)),
+];
+
+impl ModesSource {
+    pub fn cases(&self, random: &mut Random, count: usize) -> Vec<ModesCase> {
+        match self {
+            List(list) => list(random),
+            Draw(shape, share) => draw(random, count * share / 100, *shape),
+        }
+    }
+}
+
+/// Low closenesses, which leave more modes, are drawn more often.
+fn draw(random: &mut Random, count: usize, shape: Shape) -> Vec<ModesCase> {
+    (0..count)
+        .map(|_| {
+            let bins = mode_shapes::bins(random);
+            let histogram = shape(random, bins);
+            let top = if random.coin() { 3 } else { MOST_CLOSENESS + 2 };
+            let closeness = random.within(0, top);
+            let places = match random.below(20) {
+                0 => random.below(bins),
+                1..=9 => bins,
+                10..=18 => bins + random.below(5),
+                _ => bins + random.below(400),
+            };
+            ModesCase {
+                histogram,
+                closeness,
+                places,
+            }
+        })
+        .collect()
+}
+
+fn fitting(histogram: Vec<u32>, closeness: u32) -> ModesCase {
+    let places = histogram.len();
+    ModesCase {
+        histogram,
+        closeness,
+        places,
+    }
+}
+
+fn samples(_: &mut Random) -> Vec<ModesCase> {
+    let histograms: [&[u32]; 8] = [
+        &[0, 1, 0, 1, 0],
+        &[0, 20, 0, 20, 0],
+        &[0, 20, 0, 20],
+        &[20, 0, 20, 0],
+        &[65_536, 0],
+        &[65_535, 1],
+        &[65_536, 1],
+        &[0, 0, 0, 0],
+    ];
+    let closenesses = [0, 1, 13, 14, MOST_CLOSENESS, MOST_CLOSENESS + 1];
+    histograms
+        .iter()
+        .flat_map(|histogram| closenesses.map(|closeness| fitting(histogram.to_vec(), closeness)))
+        .collect()
+}
+
+/// Every histogram of 2 to 5 bins with four levels, of 6 and 7 bins with three, of 8 to 11 bins with two.
+fn every_small(_: &mut Random) -> Vec<ModesCase> {
+    let mut cases = Vec::new();
+    let levels: [(u32, &[u32]); 10] = [
+        (2, &[0, 1, 5, 20]),
+        (3, &[0, 1, 5, 20]),
+        (4, &[0, 1, 5, 20]),
+        (5, &[0, 1, 5, 20]),
+        (6, &[0, 3, 9]),
+        (7, &[0, 3, 9]),
+        (8, &[0, 9]),
+        (9, &[0, 9]),
+        (10, &[0, 9]),
+        (11, &[0, 9]),
+    ];
+    for (bins, levels) in levels {
+        for code in 0..levels.len().pow(bins) {
+            let digit = |bin| code / levels.len().pow(bin) % levels.len();
+            let histogram: Vec<u32> = (0..bins).map(|bin| levels[digit(bin)]).collect();
+            for closeness in [0, 2] {
+                cases.push(fitting(histogram.clone(), closeness));
+            }
+        }
+    }
+    cases
+}
+
+fn two_bins(_: &mut Random) -> Vec<ModesCase> {
+    let mut cases = Vec::new();
+    for left in 0..=30 {
+        for right in 0..=30 {
+            cases.push(fitting(vec![left, right], (left + right) % 3));
+        }
+    }
+    for left in [0, 1, 2, 32_767, 32_768, 32_769, 65_535, 65_536] {
+        for sum in 65_535..=65_537 {
+            cases.push(fitting(vec![left, u32::max(sum, left) - left], 0));
+        }
+    }
+    cases
+}
+
+fn all_equal(_: &mut Random) -> Vec<ModesCase> {
+    let mut cases = Vec::new();
+    for bins in (2..=40).chain([60, 128, 255, MOST_BINS]) {
+        for count in [0, 1, 7, 65_536 / bins as u32] {
+            for closeness in [0, MOST_CLOSENESS] {
+                cases.push(fitting(vec![count; bins], closeness));
+            }
+        }
+    }
+    cases
+}
+
+/// At the closeness of the tie, one below and one above; mirrored; and turned on, for the rings.
+fn ties(_: &mut Random) -> Vec<ModesCase> {
+    let mut cases = Vec::new();
+    for &(_, closeness, line) in MODE_TIES {
+        for closeness in closeness.saturating_sub(1)..=closeness + 1 {
+            let mut histogram = line.to_vec();
+            cases.push(fitting(histogram.clone(), closeness));
+            histogram.reverse();
+            for _ in 0..histogram.len() {
+                histogram.rotate_left(1);
+                cases.push(fitting(histogram.clone(), closeness));
+            }
+        }
+    }
+    cases
+}
+
+/// Each of the four grounds with and without each of the others.
+fn grounds(_: &mut Random) -> Vec<ModesCase> {
+    let mut cases = Vec::new();
+    for bins in [0, 1, 2, 5, MOST_BINS, MOST_BINS + 1, 300] {
+        for last in [0, 1, 65_536, 65_537, u32::MAX] {
+            for closeness in [0, MOST_CLOSENESS, MOST_CLOSENESS + 1, 1 << 16, u32::MAX] {
+                for places in [0, bins.saturating_sub(1), bins, bins + 1] {
+                    let mut histogram = vec![0; bins];
+                    if let Some(bin) = histogram.last_mut() {
+                        *bin = last;
+                    }
+                    cases.push(ModesCase {
+                        histogram,
+                        closeness,
+                        places,
+                    });
+                }
+            }
+        }
+    }
+    cases
+}
+
+fn places(random: &mut Random) -> Vec<ModesCase> {
+    let mut cases = Vec::new();
+    for index in 0..100 {
+        let bins = 2 + random.below(11);
+        let histogram = SHAPES[index % SHAPES.len()](random, bins);
+        for places in (0..=bins + 3).chain([MOST_BINS, MOST_BINS + 1, 1000]) {
+            cases.push(ModesCase {
+                histogram: histogram.clone(),
+                closeness: 0,
+                places,
+            });
+        }
+    }
+    cases
+}
+
+fn every_closeness(random: &mut Random) -> Vec<ModesCase> {
+    (0..100)
+        .flat_map(|index| {
+            let bins = 4 + random.below(11);
+            let histogram = SHAPES[index % SHAPES.len()](random, bins);
+            (0..=MOST_CLOSENESS + 2).map(move |closeness| fitting(histogram.clone(), closeness))
+        })
+        .collect()
+}
+
+/// The reference weighs every part of every run of segments, so that these have few segments; one line that has as
+/// many as there can be is joined pair by pair.
+fn longest(random: &mut Random) -> Vec<ModesCase> {
+    let mut cases = Vec::new();
+    for bins in [MOST_BINS - 1, MOST_BINS, MOST_BINS + 1] {
+        let mut spike = vec![0; bins];
+        spike[random.below(bins)] = 65_536;
+        let rising: Vec<u32> = (0..bins as u32).map(|bin| bin / 2).collect();
+        let falling = rising.iter().rev().copied().collect();
+        for histogram in [vec![255; bins], spike, rising, falling] {
+            cases.push(fitting(histogram, 0));
+        }
+        for _ in 0..20 {
+            let humps = 1 + random.below(3);
+            let closeness = random.within(0, MOST_CLOSENESS);
+            cases.push(fitting(
+                mode_shapes::smooth_humps(random, bins, humps),
+                closeness,
+            ));
+        }
+    }
+    let alternating: Vec<u32> = (0..MOST_BINS as u32).map(|bin| bin % 2).collect();
+    cases.push(fitting(alternating, MOST_CLOSENESS));
+    cases
+}
+
+fn cloths(random: &mut Random) -> Vec<ModesCase> {
+    (0..400)
+        .map(|index| {
+            let bins = [42, 52, 60][index % 3];
+            let closeness = if random.coin() {
+                0
+            } else {
+                random.within(0, MOST_CLOSENESS)
+            };
+            fitting(mode_shapes::cloth(random, bins), closeness)
+        })
+        .collect()
+}
