@@ -21,7 +21,7 @@ mod ties;
 
 use comparison::{Calls, Difference, Form, Tally};
 use groups::{Source, GROUPS};
-use mode_groups::{ModesSource, LINES, RINGS};
+use mode_groups::{ModesSource, BOTH, LINES, RINGS};
 use random::Random;
 use std::process::ExitCode;
 
@@ -137,7 +137,7 @@ fn run(options: &Options) -> (usize, usize) {
         }
     }
     let mut modes = |form: Form, groups: &[(&str, ModesSource)], first_stream: usize| {
-        for (index, (name, source)) in groups.iter().enumerate() {
+        for (index, (name, source)) in BOTH.iter().chain(groups).enumerate() {
             let mut tally = Tally::default();
             let outcome = compare_modes(form, source, first_stream + index, options, &mut tally);
             note(&format!("{}, {name}", form.name()), tally, outcome);

@@ -23,9 +23,10 @@ pub enum ModesSource {
 
 use ModesSource::{Draw, List};
 
-pub const LINES: [(&str, ModesSource); 21] = [
+/// The groups that lines and rings share.
+pub const BOTH: [(&str, ModesSource); 10] = [
     ("samples of the paper", List(samples)),
-    ("every small line", List(every_small)),
+    ("every small histogram", List(every_small)),
     ("two bins", List(two_bins)),
     ("all zero and all equal", List(all_equal)),
     ("cost 0 and next to it", List(ties)),
@@ -34,6 +35,9 @@ pub const LINES: [(&str, ModesSource); 21] = [
     ("every closeness 0 to 22", List(every_closeness)),
     ("256 and 257 bins", List(longest)),
     ("cloths of 42, 52 and 60 bins", List(cloths)),
+];
+
+pub const LINES: [(&str, ModesSource); 11] = [
     ("few levels", Draw(mode_shapes::few_levels, 15)),
     ("periods", Draw(mode_shapes::periods, 10)),
     ("noise", Draw(shapes::noise, 15)),
@@ -47,17 +51,7 @@ pub const LINES: [(&str, ModesSource); 21] = [
     ("huge counts", Draw(shapes::huge, 1)),
 ];
 
-pub const RINGS: [(&str, ModesSource); 20] = [
-    ("samples of the paper", List(samples)),
-    ("every small ring", List(every_small)),
-    ("two bins", List(two_bins)),
-    ("all zero and all equal", List(all_equal)),
-    ("cost 0 and next to it", List(ties)),
-    ("grounds", List(grounds)),
-    ("places of the list", List(places)),
-    ("every closeness 0 to 22", List(every_closeness)),
-    ("256 and 257 bins", List(longest)),
-    ("cloths of 42, 52 and 60 bins", List(cloths)),
+pub const RINGS: [(&str, ModesSource); 10] = [
     ("lowest bin repeated", Draw(mode_shapes::lowest_repeated, 6)),
     (
         "flat lowest over the seam",

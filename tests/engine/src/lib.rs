@@ -90,32 +90,28 @@ pub fn verdict(histogram: &mut [u32], rising: bool, closeness: u32) -> VerdictAn
     unsafe { kistrovu_verdict(histogram.as_mut_ptr(), histogram.len(), rising, closeness) }
 }
 
+type ModesCall = unsafe extern "C" fn(*const u32, usize, u32, *mut u32, usize) -> ModesAnswer;
+
 /// The histogram is lent as in `fit`.
 pub fn line_modes(histogram: &mut [u32], closeness: u32, separators: &mut [u32]) -> ModesAnswer {
-    // SAFETY: each pointer and length are those of one slice, lent for the time of the call; the two do not overlap.
-    unsafe {
-        kistrovu_line_modes(
-            histogram.as_mut_ptr(),
-            histogram.len(),
-            closeness,
-            separators.as_mut_ptr(),
-            separators.len(),
-        )
-    }
+    modes(kistrovu_line_modes, histogram, closeness, separators)
 }
 
 /// The histogram is lent as in `fit`.
 pub fn ring_modes(histogram: &mut [u32], closeness: u32, separators: &mut [u32]) -> ModesAnswer {
-    // SAFETY: as in `line_modes`.
-    unsafe {
-        kistrovu_ring_modes(
-            histogram.as_mut_ptr(),
-            histogram.len(),
-            closeness,
-            separators.as_mut_ptr(),
-            separators.len(),
-        )
-    }
+    modes(kistrovu_ring_modes, histogram, closeness, separators)
+}
+
+fn modes(
+    call: ModesCall,
+    histogram: &mut [u32],
+    closeness: u32,
+    separators: &mut [u32],
+) -> ModesAnswer {
+    let (bins, len) = (histogram.as_mut_ptr(), histogram.len());
+    let (list, places) = (separators.as_mut_ptr(), separators.len());
+    // SAFETY: each pointer and length are those of one slice, lent for the time of the call; the two do not overlap.
+    unsafe { call(bins, len, closeness, list, places) }
 }
 
 impl From<calls::MeasuresAnswer> for MeasuresAnswer {
