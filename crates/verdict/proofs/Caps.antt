@@ -1,16 +1,16 @@
 -- The best weight that a search stops with, as far as a limit, gives the cost as far as a cap. Assumes nothing.
-use Prim.Native.Nat.{ℕ, zero, suc, _+_, _*_, _-_, _^_, _≤_, _<_}
+use Prim.Native.Nat.{ℕ, zero, suc, _+_, _-_, _^_, _≤_, _<_}
 use mathlib.Core.Path.{_≡_, refl, sym, ap, ap₂, _∙_}
 use mathlib.Core.Bool.{Bool, true, false, cond, false≢true}
 use mathlib.Core.Logic.{_⊎_, inl, inr, ⊎-elim}
 use mathlib.Core.List.{List}
 use native.Mathlib.Omega.{arith}
-use lib.Dec.{leb→le, leb·suc-suc}
+use lib.Dec.{leb·suc-suc}
 use lib.ListN.{length, getD}
 use lib.IntN.{ℤ, pos, negsuc, sucℤ, predℤ, negℤ, _+ℤ_, _-ℤ_, +ℤ-idr, +ℤ-sucℤ, sucℤ-+ℤ, +ℤ-predℤ}
 use mir.Syntax.{w64}
 use mir.Val.{SFits}
-use lib.Signed.{ltZ, mag, _≤ℤ_, ≤ℤ-refl, ltZ-yes, clashℤ}
+use lib.Signed.{ltZ, mag, _≤ℤ_, ≤ℤ-refl}
 use borrow.Author.Tests.{lt-ltb, le-ltb}
 use Rattle.lists.specs.Lists.{total, part}
 use Rattle.lists.proofs.Cases.{by-cond, by-order}
@@ -180,3 +180,17 @@ capped-cost-is e w h cap r small some close best =
       above = λ f. nlt-le-ℤ (r -ℤ pos height) cap (less-below r cap height ∙ best-reaches h (blocks w h) limit some r best (sym (less-below largest cap height) ∙ f));
       small = less-small r height (attained-small w h small r (best .attained)) (bar-small e (length h) close some (small .bins));
     }
+
+-- ---- the cap that stands for none: no cost reaches it
+below-mag : (z : ℤ) (n : ℕ) → mag z < n → ltZ z (pos n) ≡ true
+below-mag (pos a) n l = lt-ltb a n l
+below-mag (negsuc a) n l = refl
+
+pub cost-below : (e : Closeness) (w : Direction) (h : List ℕ) → Small h → 1 ≤ length h → ltZ (cost e w h) (pos (2 ^ 62 - 1)) ≡ true
+unfolding cost
+cost-below e w h small some =
+    let b = bar e (length h) in
+    let z = largestWeight h (blocks w h) in
+    let found = largest-part h (blocks w h) some in
+    let part : Attained h (blocks w h) z = record { first = found .0; last = found .1; ends = (found .2, found .3); weight = found .4 } in
+    less-below z (pos (2 ^ 62 - 1)) b ∙ below-mag z (2 ^ 62 - 1 + b) (omega (arith, attained-small w h small z part))

@@ -3,20 +3,14 @@ use Prim.Native.Nat.{ℕ, zero, suc, _*_, _-_, _/_, _^_, _≤_, _<_}
 use native.Mathlib.Nat.{mul-le-mul-left, mul-le-mul, le-refl, zero-mul}
 use native.Mathlib.Omega.{arith}
 use lib.Dec.{lit≤}
-use mathlib.Core.List.{List}
-use lib.ListN.{length}
 use lib.Signed.{mag}
-use Rattle.lists.specs.Lists.{total, part}
 use Rattle.lists.proofs.Signed.{difference-below}
 use Rattle.logarithm.specs.Log.{lg, unitsPerBit, roundCount}
 use Rattle.logarithm.proofs.Laws.{lg-below}
-use Rattle.pooling.specs.Blocks.{Direction, blocks}
 use Rattle.verdict.specs.declared.Mass.{Mass}
-use Rattle.verdict.specs.Test.{Closeness, mostCloseness, fittedMass, weight, partWeight, bar, largestWeight}
+use Rattle.verdict.specs.Test.{Closeness, mostCloseness, weight, bar}
 use Rattle.verdict.specs.Exactness.{InRange}
 use Rattle.verdict.proofs.Terms.{observedLog, expectedLog, Ranged, counted, massed, remaining, parts-range}
-use Rattle.verdict.proofs.Range.{in-range}
-use Rattle.verdict.proofs.Largest.{largest-part}
 
 -- room for finer units too
 units-small : unitsPerBit ≤ 2 ^ 40
@@ -58,12 +52,3 @@ weight-small n k m r h =
     let c = term-ranged k (m .num) (massed n k m r) in
     let d = term-ranged (n - k) (n * m .den - m .num) (remaining n k m r) in
     difference-below (observedLog n k m) (expectedLog n k m) (2 ^ 62 - 2 ^ 46) (omega (arith, r .partial)) (omega (arith, r .partial))
-
-pub largest-small : (w : Direction) (h : List ℕ) → 1 ≤ length h → length h ≤ 257 → total h ≤ 98304 → mag (largestWeight h (blocks w h)) < 2 ^ 62
-unfolding partWeight
-largest-small w h some bins counts =
-    let found = largest-part h (blocks w h) some in
-    let i = found .0 in
-    let j = found .1 in
-    rw (found .4)
-    (omega (arith, weight-small (total h) (total (part i j h)) (fittedMass h (blocks w h) i j) (in-range w h bins counts i j (found .2) (found .3)) counts))

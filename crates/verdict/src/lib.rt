@@ -1,12 +1,11 @@
 // The test of a stretch of bins: how far its parts are from a monotone fit, and whether that is too far.
 // One closeness, one direction, one stretch; `judge` gives its verdict.
-mod capped;
 mod costs;
 mod parts;
 mod signed;
 mod weights;
 
-pub use capped::capped_cost;
+pub use costs::capped_cost;
 use costs::cost;
 use signed::not_negative;
 ghost use mathlib.Core.Path.{_≡_};

@@ -14,8 +14,8 @@ use Rattle.verdict.proofs.Tables.{places-held}
 use Rattle.verdict.proofs.Sizes.{bar-small}
 use Rattle.verdict.proofs.Caps.{attained-small, capped-cost-is}
 use borrow.Author.Needs.{needs}
-use Rattle.verdict.proofs.capped.capped_cost.Statement.{statement}
-use Rattle.verdict.proofs.capped.capped_cost.Tie as tie
+use Rattle.verdict.proofs.costs.capped_cost.Statement.{statement}
+use Rattle.verdict.proofs.costs.capped_cost.Tie as tie
 
 running-totals-requires : tie.Need-running-totals-requires
 running-totals-requires c κs = search needs

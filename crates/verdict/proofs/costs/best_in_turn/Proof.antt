@@ -14,8 +14,8 @@ use Rattle.pooling.specs.Blocks.{direction, blocks}
 use Rattle.verdict.specs.Tables.{BestOf, Turn, firstOf, endOf}
 use Rattle.verdict.proofs.Machine.{handed-back}
 use Rattle.verdict.proofs.Caps.{start-le, end-le, best-none, best-stops, best-same, best-bin}
-use Rattle.verdict.proofs.capped.best_in_turn.Statement.{statement}
-use Rattle.verdict.proofs.capped.best_in_turn.Tie as tie
+use Rattle.verdict.proofs.costs.best_in_turn.Statement.{statement}
+use Rattle.verdict.proofs.costs.best_in_turn.Tie as tie
 
 abbrev Inv-loop : tie.InvT-loop
 Inv-loop h rising before starts sums lens within best limit found₀ j₀ found j =

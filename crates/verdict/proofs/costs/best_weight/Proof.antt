@@ -8,8 +8,8 @@ use mir.ValLaws.{toZ-ofZ}
 use Rattle.verdict.proofs.Machine.{handed-back}
 use Rattle.verdict.proofs.Caps.{best-turns}
 use borrow.Author.Needs.{needs}
-use Rattle.verdict.proofs.capped.best_weight.Statement.{statement}
-use Rattle.verdict.proofs.capped.best_weight.Tie as tie
+use Rattle.verdict.proofs.costs.best_weight.Statement.{statement}
+use Rattle.verdict.proofs.costs.best_weight.Tie as tie
 
 sub-part-weight : tie.Need-sub-part-weight
 sub-part-weight c = search needs

@@ -13,8 +13,8 @@ use Rattle.pooling.specs.Blocks.{direction, blocks}
 use Rattle.verdict.specs.Tables.{BestOf, EndingAt}
 use Rattle.verdict.proofs.Machine.{handed-back}
 use Rattle.verdict.proofs.Caps.{larger-above, best-none, best-stops, best-same, best-more}
-use Rattle.verdict.proofs.capped.best_ending_at.Statement.{statement}
-use Rattle.verdict.proofs.capped.best_ending_at.Tie as tie
+use Rattle.verdict.proofs.costs.best_ending_at.Statement.{statement}
+use Rattle.verdict.proofs.costs.best_ending_at.Tie as tie
 
 abbrev Inv-loop : tie.InvT-loop
 Inv-loop h rising before starts sums lens j first end best limit found₀ i₀ found i =
