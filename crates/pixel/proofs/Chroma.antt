@@ -1,4 +1,4 @@
--- Q: never negative, at most 65025 for bytes, and 0 where the hue point is the origin. Assumes nothing.
+-- Q: never negative, at most 65025 for bytes, a sum of two squares, and 0 where the hue point is the origin. Assumes nothing.
 use Prim.Native.Nat.{ℕ, _+_, _*_, _-_, _≤_}
 use mathlib.Core.Path.{_≡_}
 use native.Mathlib.Omega.{arith}
@@ -47,3 +47,23 @@ chroma-le p hr hg hb = omega (arith, squares-le (p .red) (p .green) (p .blue) 25
 pub chroma-even : (p : Pixel) → p .green ≡ p .blue → 2 * p .red ≡ p .green + p .blue → chromaSquared p ≡ 0
 unfolding chromaSquared
 chroma-even p e f = let r : p .red ≡ p .blue = omega arith in rw (e, r) (omega arith)
+
+-- ---- Q from how far apart G and B, and G + B and 2R, are
+apart-squared : (m n : ℕ) → (m - n + (n - m)) * (m - n + (n - m)) + 2 * (m * n) ≡ m * m + n * n
+apart-squared m n =
+    by-less m n
+    (λ h. let e : m - n + (n - m) ≡ n - m = omega arith in rw e (omega (arith, far n m (n - m) (omega arith))))
+    (λ h. let e : m - n + (n - m) ≡ m - n = omega arith in rw e (far m n (m - n) (omega arith)))
+  where
+    far : (m n d : ℕ) → m ≡ n + d → d * d + 2 * (m * n) ≡ m * m + n * n
+    far m n d e = rw e (omega arith)
+
+pub chroma-fourfold : (p : Pixel) (x y : ℕ)
+    → x ≡ p .green - p .blue + (p .blue - p .green)
+    → y ≡ p .green + p .blue - 2 * p .red + (2 * p .red - (p .green + p .blue))
+    → y * y + 3 * (x * x) ≡ 4 * chromaSquared p
+unfolding chromaSquared
+chroma-fourfold p x y ex ey =
+    rw (ex, ey)
+    (omega
+    (arith, apart-squared (p .green) (p .blue), apart-squared (p .green + p .blue) (2 * p .red), mixed-le (p .red) (p .green) (p .blue)))

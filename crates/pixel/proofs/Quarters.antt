@@ -1,12 +1,12 @@
 -- A hue point turned back, by its quarter. Assumes nothing.
 use Prim.Native.Nat.{ℕ, _+_, _*_, _-_, _≤_, _<_}
 use mathlib.Core.Path.{_≡_, refl, _∙_}
-use mathlib.Core.Bool.{Bool, true, false, cond, _&&_, and-false}
+use mathlib.Core.Bool.{Bool, true, false, cond, not, _&&_, and-false}
 use lib.Dec.{leb, ltb}
 use lib.IntN.{pos, subℕ, negℤ-negℤ}
 use native.Mathlib.Omega.{arith}
-use native.Mathlib.Nat.{mul-sub}
-use borrow.Author.Tests.{leb-true, lt-ltb, le-ltb, le-leb}
+use native.Mathlib.Nat.{mul-sub, le-of-lt}
+use borrow.Author.Tests.{ltb-true, ltb-false, leb-true, leb-false, lt-ltb, le-ltb, le-leb}
 use Rattle.lists.proofs.Differences.{diff-positive, diff-nonnegative, diff-negative, diff-nonpositive, diff-above, diff-below}
 use Rattle.pixel.specs.declared.Pixel.{Pixel}
 use Rattle.pixel.specs.Colour.{Point, huePoint, quarter, turnedBack, turnedOf}
@@ -62,6 +62,27 @@ module _ (m n k l : ℕ) where
       first true e = rw (le-ltb n m (f (leb-true l k e)))
       first false e = rw e (and-false (ltb n m))
 
+-- ---- halves: of the point (g − b, s − t), where neither is large
+apart-above : (m n : ℕ) → n ≤ m → m - n + (n - m) ≡ m - n
+apart-above m n h = omega arith
+
+apart-below : (m n : ℕ) → m ≤ n → m - n + (n - m) ≡ n - m
+apart-below m n h = omega arith
+
+module _ (g b s t : ℕ) (small : (g ≤ 255) × (b ≤ 255) × (s ≤ 510) × (t ≤ 510)) where
+  upper-right : 256 * t + b < 256 * s + g → 512 * b + s ≤ 512 * g + t → (b < g) × (t ≤ s)
+  upper-right w l = (omega arith, omega arith)
+
+  upper-left : 256 * t + b < 256 * s + g → 512 * g + t < 512 * b + s → (g ≤ b) × (t < s)
+  upper-left w l = (omega arith, omega arith)
+
+  lower-left : 256 * s + g ≤ 256 * t + b → 512 * g + t < 512 * b + s → (g < b) × (s ≤ t)
+  lower-left w l = (omega arith, omega arith)
+
+  -- the origin too
+  lower-right : 256 * s + g ≤ 256 * t + b → 512 * b + s ≤ 512 * g + t → (b ≤ g) × (s ≤ t) × (t ≤ s → g ≤ b)
+  lower-right w l = (omega arith, omega arith, λ e. omega arith)
+
 -- ---- the point of a pixel
 module _ (p : Pixel) where
   pub hue-turns-0 : p .blue < p .green → 2 * p .red ≤ p .green + p .blue
@@ -91,3 +112,28 @@ module _ (p : Pixel) where
   hue-turns-3 h j f =
       rw (mul-sub 1732051, mul-sub 1000000)
       (turns-3 (1732051 * p .green) (1732051 * p .blue) (1000000 * (p .green + p .blue)) (1000000 * (2 * p .red)) (omega arith) (omega arith) (λ e. omega (arith, f (omega arith))))
+
+  -- by the halves that it lies in, upper or lower and right or left
+  pub turned-by-halves : (u v : ℕ) (upper right : Bool) → (p .red ≤ 255) × (p .green ≤ 255) × (p .blue ≤ 255)
+      → u ≡ 1732051 * (p .green - p .blue + (p .blue - p .green))
+      → v ≡ 1000000 * (p .green + p .blue - 2 * p .red + (2 * p .red - (p .green + p .blue)))
+      → ltb (256 * (2 * p .red) + p .blue) (256 * (p .green + p .blue) + p .green) ≡ upper
+      → leb (512 * p .blue + (p .green + p .blue)) (512 * p .green + 2 * p .red) ≡ right
+      → let odd = cond upper (not right) right in
+      turnedOf (huePoint p) ≡ record { quarter = cond upper 0 2 + cond odd 1 0; a = cond odd v u; b = cond odd u v }
+  turned-by-halves u v true true (hr, hg, hb) eu ev i j =
+      let o = upper-right (p .green) (p .blue) (p .green + p .blue) (2 * p .red) (hg, hb, omega arith, omega arith) (ltb-true _ _ i) (leb-true _ _ j) in
+      rw (eu, ev, apart-above (p .green) (p .blue) (le-of-lt (o .0)), apart-above (p .green + p .blue) (2 * p .red) (o .1))
+      (turned-of (huePoint p) 0 _ _ (hue-turns-0 (o .0) (o .1)))
+  turned-by-halves u v true false (hr, hg, hb) eu ev i j =
+      let o = upper-left (p .green) (p .blue) (p .green + p .blue) (2 * p .red) (hg, hb, omega arith, omega arith) (ltb-true _ _ i) (leb-false _ _ j) in
+      rw (eu, ev, apart-below (p .green) (p .blue) (o .0), apart-above (p .green + p .blue) (2 * p .red) (le-of-lt (o .1)))
+      (turned-of (huePoint p) 1 _ _ (hue-turns-1 (o .0) (o .1)))
+  turned-by-halves u v false false (hr, hg, hb) eu ev i j =
+      let o = lower-left (p .green) (p .blue) (p .green + p .blue) (2 * p .red) (hg, hb, omega arith, omega arith) (ltb-false _ _ i) (leb-false _ _ j) in
+      rw (eu, ev, apart-below (p .green) (p .blue) (le-of-lt (o .0)), apart-below (p .green + p .blue) (2 * p .red) (o .1))
+      (turned-of (huePoint p) 2 _ _ (hue-turns-2 (o .0) (o .1)))
+  turned-by-halves u v false true (hr, hg, hb) eu ev i j =
+      let o = lower-right (p .green) (p .blue) (p .green + p .blue) (2 * p .red) (hg, hb, omega arith, omega arith) (ltb-false _ _ i) (leb-true _ _ j) in
+      rw (eu, ev, apart-above (p .green) (p .blue) (o .0), apart-below (p .green + p .blue) (2 * p .red) (o .1))
+      (turned-of (huePoint p) 3 _ _ (hue-turns-3 (o .0) (o .1) (o .2)))

@@ -1,12 +1,15 @@
 -- The saturation bin from Q, by where bins begin. Assumes nothing.
-use Prim.Native.Nat.{ℕ, _+_, _*_, _≤_, _<_}
-use mathlib.Core.Path.{_≡_}
+use Prim.Native.Nat.{ℕ, _+_, _*_, _/_, _≤_, _<_}
+use mathlib.Core.Path.{_≡_, sym}
+use mathlib.Core.Bool.{cond}
 use lib.Dec.{leb}
 use native.Mathlib.Omega.{arith}
 use native.Mathlib.Nat.{mul-le-mul}
-use borrow.Author.Tests.{leb-true, le-leb}
+use borrow.Author.Tests.{leb-true, leb-false, le-leb}
+use Rattle.lists.proofs.Cases.{by-cond}
 use Rattle.lists.proofs.Differences.{by-less}
 use Rattle.lists.proofs.Tests.{largest-that-unique}
+use Rattle.pixel.specs.Root.{RootWithin}
 use Rattle.pixel.specs.Colour.{saturationOf}
 
 -- bins begin in order
@@ -20,3 +23,17 @@ saturation-is q j s h l =
     let o : j < 42 = begins-below j 42 (2 * q) h (omega arith) in
     largest-that-unique (λ (k : ℕ). leb (75 * (k * k)) (2 * q)) 41 j (omega arith) (le-leb (75 * (j * j)) (2 * q) h)
     (λ k e. omega (arith, begins-below k (j + 1) (2 * q) (leb-true (75 * (k * k)) (2 * q) e) l))
+
+-- from the whole square root of 2Q/75, or the number 1 below it
+pub saturation-near : (q j : ℕ) → q ≤ 65025 → RootWithin 2 (2 * q / 75) j → cond (leb ((j + 1) * (j + 1)) (2 * q / 75)) (j + 1) j ≡ saturationOf q
+saturation-near q j s h =
+    by-cond (λ (m : ℕ). m ≡ saturationOf q) (leb ((j + 1) * (j + 1)) (2 * q / 75)) (j + 1) j
+    (λ e. sym (saturation-is q (j + 1) s (omega (arith, leb-true ((j + 1) * (j + 1)) (2 * q / 75) e)) (omega arith)))
+    (λ e. sym (saturation-is q j s (omega arith) (omega (arith, leb-false ((j + 1) * (j + 1)) (2 * q / 75) e))))
+
+-- of a grey
+pub saturation-grey : (q : ℕ) → q ≤ 136 → cond (leb 38 q) 1 0 ≡ saturationOf q
+saturation-grey q h =
+    by-cond (λ (m : ℕ). m ≡ saturationOf q) (leb 38 q) 1 0
+    (λ e. sym (saturation-is q 1 (omega arith) (omega (arith, leb-true 38 q e)) (omega arith)))
+    (λ e. sym (saturation-is q 0 (omega arith) (omega arith) (omega (arith, leb-false 38 q e))))

@@ -1,7 +1,16 @@
--- How near a number is to a square root. Assumes nothing.
-use Prim.Native.Nat.{ℕ, _+_, _*_, _≤_, _<_}
+-- Near a square root. Assumes nothing.
+--   RootWithin   how near a number is
+--   lineOf       straight lines that run near it, in 1024ths: for 0 to 39, to 199, to 699, and to 1734
+use Prim.Native.Nat.{ℕ, zero, suc, _+_, _*_, _≤_, _<_}
+use Rattle.pixel.specs.declared.Line.{Line}
 
 -- j is the whole part of the square root of x, or less than w below it
 pub record RootWithin (w x j : ℕ) : Type 0 where
   pub low : j * j ≤ x
   pub high : x < (j + w) * (j + w)
+
+unfoldable pub lineOf : ℕ → Line
+lineOf zero = record { start = 900; slope = 146 }
+lineOf (suc zero) = record { start = 4500; slope = 49 }
+lineOf (suc (suc zero)) = record { start = 9600; slope = 25 }
+lineOf (suc (suc (suc n))) = record { start = 16600; slope = 15 }

@@ -1,8 +1,10 @@
 // The measures of a pixel: its intensity, saturation and hue bins, and whether it is grey.
 ghost use mathlib.Core.Path.{_≡_};
-ghost use Prim.Native.Nat.{_+_, _*_, _≤_, _<_};
+ghost use mathlib.Core.Bool.{cond, not};
+ghost use Prim.Native.Nat.{_+_, _*_, _-_, _≤_};
+ghost use lib.Dec.{leb};
 ghost use lib.ListN.{getD};
-ghost use Rattle.pixel.specs.Root.{RootWithin};
+ghost use Rattle.pixel.specs.Root.{RootWithin, lineOf};
 ghost use Rattle.pixel.specs.Colour.{
   intensityBin,
   chromaSquared,
@@ -31,28 +33,22 @@ pub struct Measures {
 
 // A hue point turned back by its quarter to (a, b).
 struct Turned {
-    quarter: u8,
+    quarter: u32,
     a: u32,
     b: u32,
 }
 
-// The tangents of 6° to 84°, in millionths.
-const TANGENTS: [u32; 14] = [
-    105104,
-    212556,
-    324919,
-    445228,
-    577350,
-    726542,
-    900404,
-    1110612,
-    1376381,
-    1732050,
-    2246036,
-    3077683,
-    4704630,
-    9514364,
-];
+// A straight line that is near the square root for some stretch, in 1024ths.
+struct Line {
+    start: u32,
+    slope: u32,
+}
+
+// The two tangents between one of every third and the next.
+struct Inner {
+    first: u32,
+    second: u32,
+}
 
 fn intensity_bin(p: Pixel) -> u8
     ensures { λ r. ⌜ r ≡ intensityBin p ⌝ }
@@ -60,69 +56,145 @@ fn intensity_bin(p: Pixel) -> u8
     ((p.red as u32 + p.green as u32 + p.blue as u32) / 15) as u8
 }
 
-// A product of two bytes.
-fn product(a: u8, b: u8) -> u32
-    ensures { λ r. ⌜ (r ≡ a * b) × (r ≤ 65025) ⌝ }
+// How far apart two numbers are.
+fn apart(a: u32, b: u32) -> u32
+    ensures { λ r. ⌜ r ≡ (a - b) + (b - a) ⌝ }
 {
-    a as u32 * b as u32
+    if a < b { b - a } else { a - b }
 }
 
-// Q, of which saturation squared is 2Q/3; never negative.
+// 1 or 0. A count by sums of these needs no branch.
+fn at_least(x: u32, bar: u32) -> u32
+    ensures { λ r. ⌜ (r ≡ cond (leb bar x) 1 0) × (r ≤ 1) ⌝ }
+{
+    if bar <= x { 1 } else { 0 }
+}
+
+// Compiled without a branch.
+fn chosen(test: bool, a: u32, b: u32) -> u32
+    ensures { λ r. ⌜ (r ≡ cond test a b) × (r ≤ a + b) ⌝ }
+{
+    if test { a } else { b }
+}
+
+// Q, of which saturation squared is 2Q/3: 4Q = (G+B−2R)² + 3·(G−B)².
 fn chroma_squared(p: Pixel) -> u32
     ensures { λ r. ⌜ r ≡ chromaSquared p ⌝ }
 {
-    let squares = product(p.red, p.red) + product(p.green, p.green) + product(p.blue, p.blue);
-    let mixed = product(p.red, p.green) + product(p.green, p.blue) + product(p.blue, p.red);
-    squares - mixed
+    let g = p.green as u32;
+    let b = p.blue as u32;
+    let x = apart(g, b);
+    let y = apart(g + b, 2 * p.red as u32);
+    (y * y + 3 * (x * x)) / 4
 }
 
-// One halving of the search for a square root.
-fn nearer_root(x: u32, j: u32, w: u32) -> u32
-    requires { ⌜ (j ≤ 64) × (w ≤ 64) × RootWithin (2 * w) x j ⌝ }
-    ensures { λ r. ⌜ (r ≤ j + w) × RootWithin w x r ⌝ }
+// The line for 0 to 39, to 199, to 699, and from 700 on. A match is compiled to a table that is only read; a constant array would be laid on the stack anew.
+fn line_of(stretch: u32) -> Line
+    requires { ⌜ stretch ≤ 3 ⌝ }
+    ensures { λ r. ⌜ r ≡ lineOf stretch ⌝ }
 {
-    let k = j + w;
-    if k * k <= x { k } else { j }
+    match stretch {
+        0 => Line {
+            start: 900,
+            slope: 146,
+        },
+        1 => Line {
+            start: 4500,
+            slope: 49,
+        },
+        2 => Line {
+            start: 9600,
+            slope: 25,
+        },
+        _ => Line {
+            start: 16600,
+            slope: 15,
+        },
+    }
 }
 
-// The largest j with 75j² ≤ 2Q, as the whole square root of 2Q/75, which is below 64².
+// The whole square root, or 1 below it.
+fn near_root(x: u32) -> u32
+    requires { ⌜ x ≤ 1734 ⌝ }
+    ensures { λ r. ⌜ RootWithin 2 x r ⌝ }
+{
+    let line = line_of(at_least(x, 40) + at_least(x, 200) + at_least(x, 700));
+    (line.start + line.slope * x) / 1024
+}
+
+// The largest j with 75j² ≤ 2Q, as the whole square root of 2Q/75.
 fn saturation_bin(q: u32) -> u8
     requires { ⌜ q ≤ 65025 ⌝ }
     ensures { λ r. ⌜ r ≡ saturationOf q ⌝ }
 {
     let x = 2 * q / 75;
-    let j32 = nearer_root(x, 0, 32);
-    let j16 = nearer_root(x, j32, 16);
-    let j8 = nearer_root(x, j16, 8);
-    let j4 = nearer_root(x, j8, 4);
-    let j2 = nearer_root(x, j4, 2);
-    nearer_root(x, j2, 1) as u8
+    let near = near_root(x);
+    let next = near + 1;
+    chosen(next * next <= x, next, near) as u8
 }
 
-fn tangent(i: usize) -> u32
-    requires { ⌜ i < 14 ⌝ }
-    ensures { λ r. ⌜ r ≡ getD tangents i 0 ⌝ }
+// 1 where the slope that `bound` stands for reaches tangent t.
+fn passes(t: u32, a: u32, bound: u64) -> u32
+    ensures { λ r. ⌜ (r ≡ cond (leb (t * a) bound) 1 0) × (r ≤ 1) ⌝ }
 {
-    TANGENTS[i]
+    if t as u64 * a as u64 <= bound { 1 } else { 0 }
 }
 
-// How many tangents the slope b/a reaches.
-fn tangents_passed(a: u32, b: u32) -> u8
+// The tangents of 6° to 84°, in millionths, without every third one. Each group has its arm, so that the table is read with no test; no caller comes to the last.
+fn inner_of(group: u32) -> Inner
+    requires { ⌜ group ≤ 4 ⌝ }
+    ensures { λ r. ⌜ (r .first ≡ getD tangents (3 * group) 0) × (r .second ≡ getD tangents (3 * group + 1) 0) ⌝ }
+{
+    match group {
+        0 => Inner {
+            first: 105104,
+            second: 212556,
+        },
+        1 => Inner {
+            first: 445228,
+            second: 577350,
+        },
+        2 => Inner {
+            first: 900404,
+            second: 1110612,
+        },
+        3 => Inner {
+            first: 1732050,
+            second: 2246036,
+        },
+        4 => Inner {
+            first: 4704630,
+            second: 9514364,
+        },
+        _ => Inner {
+            first: 0,
+            second: 0,
+        },
+    }
+}
+
+// How many tangents the slope b/a reaches: of every third, then of the two before the next. They rise, so those before one that is reached are reached too.
+fn tangents_passed(a: u32, b: u32) -> u32
     ensures { λ r. ⌜ r ≡ tangentsPassed a b ⌝ }
 {
     let bound = b as u64 * 1000000;
-    let mut passed = 0;
-    let mut i = 0;
-    while i < 14 {
-        if tangent(i) as u64 * a as u64 <= bound {
-            passed += 1;
-        }
-        i += 1;
-    }
-    passed
+    let group = passes(324919, a, bound)
+        + passes(726542, a, bound)
+        + passes(1376381, a, bound)
+        + passes(3077683, a, bound);
+    let t = inner_of(group);
+    3 * group + passes(t.first, a, bound) + passes(t.second, a, bound)
 }
 
-// The hue point, u = 1732051·(G−B) and v = 1000000·(G+B−2R), turned back. Each difference is taken the way round in which it is not negative.
+fn differ(a: bool, b: bool) -> bool
+    ensures { λ r. ⌜ r ≡ cond a (not b) b ⌝ }
+{
+    if a { !b } else { b }
+}
+
+// The hue point, u = 1732051·(G−B) and v = 1000000·(G+B−2R), turned back. It lies in the upper half where v > 0, or v = 0 and u > 0, and in the right
+// half where u > 0, or u = 0 and v ≤ 0: one test each, since |G−B| is below 256 and |G+B−2R| below 512. Nothing here branches, for the noise of a cloth
+// would often make the branch foretold the wrong one.
 fn turned_back(p: Pixel) -> Turned
     ensures { λ r. ⌜ r ≡ turnedOf (huePoint p) ⌝ }
 {
@@ -130,30 +202,15 @@ fn turned_back(p: Pixel) -> Turned
     let b = p.blue as u32;
     let sum = g + b;
     let twice = 2 * p.red as u32;
-    if g > b && sum >= twice {
-        Turned {
-            quarter: 0,
-            a: 1732051 * (g - b),
-            b: 1000000 * (sum - twice),
-        }
-    } else if sum > twice {
-        Turned {
-            quarter: 1,
-            a: 1000000 * (sum - twice),
-            b: 1732051 * (b - g),
-        }
-    } else if g < b {
-        Turned {
-            quarter: 2,
-            a: 1732051 * (b - g),
-            b: 1000000 * (twice - sum),
-        }
-    } else {
-        Turned {
-            quarter: 3,
-            a: 1000000 * (twice - sum),
-            b: 1732051 * (g - b),
-        }
+    let u = 1732051 * apart(g, b);
+    let v = 1000000 * apart(sum, twice);
+    let upper = 256 * twice + b < 256 * sum + g;
+    let right = 512 * b + sum <= 512 * g + twice;
+    let odd = differ(upper, right);
+    Turned {
+        quarter: chosen(upper, 0, 2) + chosen(odd, 1, 0),
+        a: chosen(odd, v, u),
+        b: chosen(odd, u, v),
     }
 }
 
@@ -161,20 +218,28 @@ fn hue_of(p: Pixel) -> u8
     ensures { λ r. ⌜ r ≡ hueOf (huePoint p) ⌝ }
 {
     let t = turned_back(p);
-    15 * t.quarter + tangents_passed(t.a, t.b)
+    (15 * t.quarter + tangents_passed(t.a, t.b)) as u8
 }
 
-// The measures of one pixel. A grey takes no hue work.
+// The measures of one pixel. A grey takes no hue work, and its saturation is 0 or 1.
 pub fn measure(p: Pixel) -> Measures
     ensures { λ r. ⌜ r ≡ measuresOf p ⌝ }
 {
+    let intensity = intensity_bin(p);
     let q = chroma_squared(p);
-    let grey = q <= 136;
-    let hue = if grey { 0 } else { hue_of(p) };
-    Measures {
-        intensity: intensity_bin(p),
-        saturation: saturation_bin(q),
-        hue,
-        grey,
+    if q <= 136 {
+        Measures {
+            intensity,
+            saturation: at_least(q, 38) as u8,
+            hue: 0,
+            grey: true,
+        }
+    } else {
+        Measures {
+            intensity,
+            saturation: saturation_bin(q),
+            hue: hue_of(p),
+            grey: false,
+        }
     }
 }

@@ -1,63 +1,75 @@
--- `pixel::chroma_squared` meets its contract: the mixed products are at most the squares. Assumes nothing.
+-- `pixel::chroma_squared` meets its contract. Assumes nothing.
+use Prim.Native.Nat.{_+_, _*_, _≤_}
+use mathlib.Core.Path.{_≡_}
 use native.Mathlib.Omega.{arith}
-use borrow.Author.Needs.{needs}
 use Rattle.pixel.specs.Colour.{chromaSquared}
-use Rattle.pixel.proofs.Chroma.{mixed-le}
+use Rattle.pixel.proofs.Chroma.{chroma-le, chroma-fourfold}
+use borrow.Author.Needs.{needs}
 use Rattle.pixel.proofs.chroma_squared.Statement.{statement}
 use Rattle.pixel.proofs.chroma_squared.Tie as tie
 
-product-requires : tie.Need-product-requires
-product-requires c κs = search needs
+fourfold : (c : tie.After-apart2)
+    → c .apart2 .result * c .apart2 .result + 3 * (c .before .before .apart .result * c .before .before .apart .result)
+    ≡ 4 * chromaSquared (c .before .before .before .before .before .args .p)
+fourfold c =
+    chroma-fourfold (c .before .before .before .before .before .args .p) (c .before .before .apart .result) (c .apart2 .result)
+    (c .before .before .apart .ensures) (c .apart2 .ensures)
 
-product-requires-2 : tie.Need-product-requires-2
-product-requires-2 c κs = search needs
+wide : (c : tie.After-apart2)
+    → c .apart2 .result * c .apart2 .result + 3 * (c .before .before .apart .result * c .before .before .apart .result) ≤ 260100
+wide c =
+    let p = c .before .before .before .before .before .args .p in
+    omega (arith, fourfold c, chroma-le p (omega arith) (omega arith) (omega arith))
 
-add-squares : tie.Need-add-squares
-add-squares c = search needs
+cast-g : tie.Need-cast-g
+cast-g c = search needs
 
-product-requires-3 : tie.Need-product-requires-3
-product-requires-3 c κs = search needs
+cast-b : tie.Need-cast-b
+cast-b c = search needs
 
-add-squares-2 : tie.Need-add-squares-2
-add-squares-2 c = search needs
+apart-requires : tie.Need-apart-requires
+apart-requires c κs = search needs
 
-product-requires-4 : tie.Need-product-requires-4
-product-requires-4 c κs = search needs
+add-apart : tie.Need-add-apart
+add-apart c = search needs
 
-product-requires-5 : tie.Need-product-requires-5
-product-requires-5 c κs = search needs
+cast-apart : tie.Need-cast-apart
+cast-apart c = search needs
 
-add-mixed : tie.Need-add-mixed
-add-mixed c = search needs
+mul-apart : tie.Need-mul-apart
+mul-apart c = search needs
 
-product-requires-6 : tie.Need-product-requires-6
-product-requires-6 c κs = search needs
+apart-requires-2 : tie.Need-apart-requires-2
+apart-requires-2 c κs = search needs
 
-add-mixed-2 : tie.Need-add-mixed-2
-add-mixed-2 c = search needs
+mul-result : tie.Need-mul-result
+mul-result c = omega (arith, wide c)
 
-sub-result : tie.Need-sub-result
-sub-result c =
-    let p = c .before .before .before .before .before .before .args .p in
-    omega (arith, mixed-le (p .red) (p .green) (p .blue))
+mul-result-2 : tie.Need-mul-result-2
+mul-result-2 c = omega (arith, wide c)
+
+mul-result-3 : tie.Need-mul-result-3
+mul-result-3 c = omega (arith, wide c)
+
+add-result : tie.Need-add-result
+add-result c = omega (arith, wide c)
 
 returns : tie.Need-returns
-unfolding chromaSquared
-returns c = omega arith
+returns c = let e = fourfold c in omega arith
 
 pub chroma-squared-spec : {M : Type 1} → statement M
 chroma-squared-spec =
     tie.close
     (tie.spec
-    product-requires
-    product-requires-2
-    add-squares
-    product-requires-3
-    add-squares-2
-    product-requires-4
-    product-requires-5
-    add-mixed
-    product-requires-6
-    add-mixed-2
-    sub-result
+    cast-g
+    cast-b
+    apart-requires
+    add-apart
+    cast-apart
+    mul-apart
+    apart-requires-2
+    mul-result
+    mul-result-2
+    mul-result-3
+    add-result
     returns)

@@ -2,9 +2,9 @@
 use Prim.Native.Nat.{_+_, _*_}
 use mathlib.Core.Path.{_≡_}
 use native.Mathlib.Omega.{arith}
-use borrow.Author.Needs.{needs}
 use Rattle.pixel.specs.Colour.{huePoint, hueOf}
 use Rattle.pixel.proofs.Hue.{turned-quarter-le, hue-le}
+use borrow.Author.Needs.{needs}
 use Rattle.pixel.proofs.hue_of.Statement.{statement}
 use Rattle.pixel.proofs.hue_of.Tie as tie
 
@@ -25,10 +25,19 @@ tangents-passed-requires c κs = search needs
 add-result : tie.Need-add-result
 add-result c = omega (arith, bin c, hue-le (huePoint (c .before .before .before .args .p)))
 
+cast-result : tie.Need-cast-result
+cast-result c = omega (arith, bin c, hue-le (huePoint (c .before .before .before .args .p)))
+
 returns : tie.Need-returns
 returns c = bin c
 
 pub hue-of-spec : {M : Type 1} → statement M
 hue-of-spec =
     tie.close
-    (tie.spec turned-back-requires mul-result tangents-passed-requires add-result returns)
+    (tie.spec
+    turned-back-requires
+    mul-result
+    tangents-passed-requires
+    add-result
+    cast-result
+    returns)

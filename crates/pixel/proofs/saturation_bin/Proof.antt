@@ -1,50 +1,37 @@
--- `pixel::saturation_bin` meets its contract: 75j² ≤ 2Q just when j² ≤ 2Q/75. Assumes nothing.
-use mathlib.Core.Path.{sym}
+-- `pixel::saturation_bin` meets its contract. Assumes nothing.
+use Prim.Native.Nat.{_+_, _*_, _≤_, _<_}
 use native.Mathlib.Omega.{arith}
+use native.Mathlib.Nat.{mul-le-mul}
+use Rattle.pixel.proofs.Saturation.{begins-below, saturation-near}
 use borrow.Author.Needs.{needs}
-use Rattle.pixel.proofs.Saturation.{saturation-is}
 use Rattle.pixel.proofs.saturation_bin.Statement.{statement}
 use Rattle.pixel.proofs.saturation_bin.Tie as tie
+
+small : (c : tie.After-near-root) → c .near-root .result < 42
+small c = begins-below (c .near-root .result) 42 (2 * c .before .args .q) (omega arith) (omega arith)
 
 mul-x : tie.Need-mul-x
 mul-x c = search needs
 
-nearer-root-requires : tie.Need-nearer-root-requires
-nearer-root-requires c κs = search needs
+near-root-requires : tie.Need-near-root-requires
+near-root-requires c κs = search needs
 
-nearer-root-requires-2 : tie.Need-nearer-root-requires-2
-nearer-root-requires-2 c κs = search needs
+add-next : tie.Need-add-next
+add-next c = omega (arith, small c)
 
-nearer-root-requires-3 : tie.Need-nearer-root-requires-3
-nearer-root-requires-3 c κs = search needs
+mul-chosen : tie.Need-mul-chosen
+mul-chosen c = let k : c .near-root .result + 1 ≤ 42 = omega (arith, small c) in omega (arith, mul-le-mul k k)
 
-nearer-root-requires-4 : tie.Need-nearer-root-requires-4
-nearer-root-requires-4 c κs = search needs
-
-nearer-root-requires-5 : tie.Need-nearer-root-requires-5
-nearer-root-requires-5 c κs = search needs
-
-nearer-root-requires-6 : tie.Need-nearer-root-requires-6
-nearer-root-requires-6 c κs = search needs
+chosen-requires : tie.Need-chosen-requires
+chosen-requires c κs = search needs
 
 cast-result : tie.Need-cast-result
-cast-result c = search needs
+cast-result c = omega (arith, small (c .before))
 
 returns : tie.Need-returns
-returns c =
-    let q = c .before .before .before .before .before .before .args .q in
-    sym (saturation-is q (c .nearer-root6 .result) (omega arith) (omega arith) (omega arith))
+returns c = rw (c .chosen .ensures .0) (saturation-near (c .before .before .args .q) (c .before .near-root .result) (omega arith) (c .before .near-root .ensures))
 
 pub saturation-bin-spec : {M : Type 1} → statement M
 saturation-bin-spec =
     tie.close
-    (tie.spec
-    mul-x
-    nearer-root-requires
-    nearer-root-requires-2
-    nearer-root-requires-3
-    nearer-root-requires-4
-    nearer-root-requires-5
-    nearer-root-requires-6
-    cast-result
-    returns)
+    (tie.spec mul-x near-root-requires add-next mul-chosen chosen-requires cast-result returns)

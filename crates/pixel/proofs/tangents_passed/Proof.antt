@@ -1,74 +1,78 @@
--- `pixel::tangents_passed` meets its contract. The loop's invariant: the count is that of the tangents gone by. Assumes nothing.
-use Prim.Native.Nat.{_-_, _≤_}
-use mathlib.Core.Path.{_≡_, sym, _∙_}
-use mathlib.Core.Logic.{⊎-elim}
-use native.Mathlib.Omega.{arith}
-use native.Mathlib.Nat.{mul-le-mul}
-use Rattle.pixel.proofs.Hue.{passedOf, passed-none, passed-all, passed-yes, passed-no}
+-- `pixel::tangents_passed` meets its contract. Assumes nothing.
+use Rattle.pixel.proofs.Hue.{passedOne, passed-by-thirds}
+use borrow.Author.Needs.{needs}
 use Rattle.pixel.proofs.tangents_passed.Statement.{statement}
 use Rattle.pixel.proofs.tangents_passed.Tie as tie
 
-abbrev Inv-loop : tie.InvT-loop
-Inv-loop a b bound passed₀ i₀ passed i = (i ≤ 14) × (passed ≤ i) × (passed ≡ passedOf a b i)
+mul-bound : tie.Need-mul-bound
+mul-bound c = search needs
 
-abbrev μ-loop : tie.MeasureT-loop
-μ-loop a b bound passed₀ i₀ passed i = 14 - i
+passes-requires : tie.Need-passes-requires
+passes-requires c κs = search needs
 
-mul-bound : tie.Need-mul-bound Inv-loop μ-loop
-mul-bound c = omega arith
+passes-requires-2 : tie.Need-passes-requires-2
+passes-requires-2 c κs = search needs
 
-loop-holds : tie.Need-loop-holds Inv-loop μ-loop
-loop-holds c = (omega arith, omega arith, sym (passed-none (c .args .a) (c .args .b)))
+add-group : tie.Need-add-group
+add-group c = search needs
 
-tangent-requires : tie.Need-tangent-requires Inv-loop μ-loop
-tangent-requires c κs = omega arith
+passes-requires-3 : tie.Need-passes-requires-3
+passes-requires-3 c κs = search needs
 
-cast-if1 : tie.Need-cast-if1 Inv-loop μ-loop
-cast-if1 c = omega arith
+add-group-2 : tie.Need-add-group-2
+add-group-2 c = search needs
 
-mul-if1 : tie.Need-mul-if1 Inv-loop μ-loop
-mul-if1 c = omega (arith, mul-le-mul {n₁ = c .tangent .result} {m₁ = c .before .before .before .args .a} {n₂ = 4294967295} {m₂ = 4294967295} (omega arith) (omega arith))
+passes-requires-4 : tie.Need-passes-requires-4
+passes-requires-4 c κs = search needs
 
-add-passed : tie.Need-add-passed Inv-loop μ-loop
-add-passed c = omega arith
+add-group-3 : tie.Need-add-group-3
+add-group-3 c = search needs
 
-add-i : tie.Need-add-i Inv-loop μ-loop
-add-i c = omega arith
+inner-of-requires : tie.Need-inner-of-requires
+inner-of-requires c κs = search needs
 
-loop-less : tie.Need-loop-less Inv-loop μ-loop
-loop-less c = omega arith
+mul-result : tie.Need-mul-result
+mul-result c = search needs
 
-loop-again : tie.Need-loop-again Inv-loop μ-loop
-loop-again c =
-    let a = c .before .before .before .before .args .a in
-    let b = c .before .before .before .before .args .b in
-    let i = c .before .before .before .loop .i in
-    let t = c .before .tangent .result in
-    let e = c .before .tangent .ensures in
-    ⊎-elim
-    (λ w. (omega arith, omega arith, omega (arith, passed-yes a b i t (omega arith) e (omega arith))))
-    (λ w. (omega arith, omega arith, omega (arith, passed-no a b i t (omega arith) e (omega arith))))
-    (c .if1 .came)
+passes-requires-5 : tie.Need-passes-requires-5
+passes-requires-5 c κs = search needs
 
-returns : tie.Need-returns Inv-loop μ-loop
+add-result : tie.Need-add-result
+add-result c = search needs
+
+passes-requires-6 : tie.Need-passes-requires-6
+passes-requires-6 c κs = search needs
+
+add-result-2 : tie.Need-add-result-2
+add-result-2 c = search needs
+
+returns : tie.Need-returns
+unfolding passedOne
 returns c =
-    let L = c .before .loop in
-    let e : L .i ≡ 14 = omega arith in
-    L .inv .2 ∙ rw e (passed-all (c .before .before .args .a) (c .before .before .args .b))
+    let args = c .before .before .before .before .before .before .before .args in
+    let d = c .before .before .before in
+    let t = c .before .before .inner-of in
+    rw (c .passes6 .ensures .0, c .before .passes5 .ensures .0)
+    (passed-by-thirds (args .a) (args .b) _ (t .result .first) (t .result .second)
+    (rw (d .passes4 .ensures .0, d .before .passes3 .ensures .0, d .before .before .passes2 .ensures .0, d .before .before .before .passes .ensures .0))
+    (t .ensures .0) (t .ensures .1))
 
 pub tangents-passed-spec : {M : Type 1} → statement M
 tangents-passed-spec =
     tie.close
     (tie.spec
-    Inv-loop
-    μ-loop
     mul-bound
-    loop-holds
-    tangent-requires
-    cast-if1
-    mul-if1
-    add-passed
-    add-i
-    loop-less
-    loop-again
+    passes-requires
+    passes-requires-2
+    add-group
+    passes-requires-3
+    add-group-2
+    passes-requires-4
+    add-group-3
+    inner-of-requires
+    mul-result
+    passes-requires-5
+    add-result
+    passes-requires-6
+    add-result-2
     returns)

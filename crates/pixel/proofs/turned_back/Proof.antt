@@ -1,18 +1,11 @@
--- `pixel::turned_back` meets its contract, by the quarter of the hue point. Assumes nothing.
-use Prim.Native.Nat.{_+_, _*_, _≤_}
-use mathlib.Core.Path.{sym}
-use mathlib.Core.Logic.{⊎-elim}
+-- `pixel::turned_back` meets its contract. Assumes nothing.
+use Prim.Native.Nat.{_*_}
+use mathlib.Core.Path.{refl, sym}
 use native.Mathlib.Omega.{arith}
-use borrow.Author.Tests.{leb-true, leb-false}
+use Rattle.pixel.proofs.Quarters.{turned-by-halves}
 use borrow.Author.Needs.{needs}
-use Rattle.pixel.specs.Colour.{huePoint}
-use Rattle.pixel.proofs.Quarters.{turned-of, hue-turns-0, hue-turns-1, hue-turns-2, hue-turns-3}
 use Rattle.pixel.proofs.turned_back.Statement.{statement}
 use Rattle.pixel.proofs.turned_back.Tie as tie
-
--- after the first test
-not-first : (c : tie.Joined1) → let p = c .before .before .before .before .args .p in 2 * p .red ≤ p .green + p .blue → p .green ≤ p .blue
-not-first c l = ⊎-elim (λ w. omega (arith, leb-false)) (λ w. omega arith) (c .if1 .came)
 
 cast-g : tie.Need-cast-g
 cast-g c = search needs
@@ -29,64 +22,69 @@ cast-twice c = search needs
 mul-twice : tie.Need-mul-twice
 mul-twice c = search needs
 
-sub-t10 : tie.Need-sub-t10
-sub-t10 c = search needs
+apart-requires : tie.Need-apart-requires
+apart-requires c κs = search needs
 
-mul-t11 : tie.Need-mul-t11
-mul-t11 c = search needs
+mul-u : tie.Need-mul-u
+mul-u c = search needs
 
-sub-t12 : tie.Need-sub-t12
-sub-t12 c = search needs
+apart-requires-2 : tie.Need-apart-requires-2
+apart-requires-2 c κs = search needs
 
-mul-t13 : tie.Need-mul-t13
-mul-t13 c = search needs
+mul-v : tie.Need-mul-v
+mul-v c = search needs
 
-sub-t16 : tie.Need-sub-t16
-sub-t16 c = search needs
+mul-upper : tie.Need-mul-upper
+mul-upper c = search needs
 
-mul-t17 : tie.Need-mul-t17
-mul-t17 c = search needs
+add-upper : tie.Need-add-upper
+add-upper c = search needs
 
-sub-t18 : tie.Need-sub-t18
-sub-t18 c = not-first (c .before) (omega arith)
+mul-upper-2 : tie.Need-mul-upper-2
+mul-upper-2 c = search needs
 
-mul-t19 : tie.Need-mul-t19
-mul-t19 c = search needs
+add-upper-2 : tie.Need-add-upper-2
+add-upper-2 c = search needs
 
-sub-t22 : tie.Need-sub-t22
-sub-t22 c = search needs
+mul-right : tie.Need-mul-right
+mul-right c = search needs
 
-mul-t23 : tie.Need-mul-t23
-mul-t23 c = search needs
+add-right : tie.Need-add-right
+add-right c = search needs
 
-mul-t25 : tie.Need-mul-t25
-mul-t25 c = search needs
+mul-right-2 : tie.Need-mul-right-2
+mul-right-2 c = search needs
 
-mul-t27 : tie.Need-mul-t27
-mul-t27 c = search needs
+add-right-2 : tie.Need-add-right-2
+add-right-2 c = search needs
 
-mul-t29 : tie.Need-mul-t29
-mul-t29 c = search needs
+differ-requires : tie.Need-differ-requires
+differ-requires c κs = search needs
+
+chosen-requires : tie.Need-chosen-requires
+chosen-requires c κs = search needs
+
+chosen-requires-2 : tie.Need-chosen-requires-2
+chosen-requires-2 c κs = search needs
+
+add-t13 : tie.Need-add-t13
+add-t13 c = search needs
+
+chosen-requires-3 : tie.Need-chosen-requires-3
+chosen-requires-3 c κs = search needs
+
+chosen-requires-4 : tie.Need-chosen-requires-4
+chosen-requires-4 c κs = search needs
 
 returns : tie.Need-returns
 returns c =
-    let p = c .before .before .before .before .before .args .p in
-    sym (turned-of (huePoint p) 0 _ _ (hue-turns-0 p (omega arith) (omega (arith, leb-true))))
-
-returns-2 : tie.Need-returns-2
-returns-2 c =
-    let p = c .before .before .before .before .before .args .p in
-    sym (turned-of (huePoint p) 1 _ _ (hue-turns-1 p (not-first (c .before) (omega arith)) (omega arith)))
-
-returns-3 : tie.Need-returns-3
-returns-3 c =
-    let p = c .before .before .before .before .before .before .args .p in
-    sym (turned-of (huePoint p) 2 _ _ (hue-turns-2 p (omega arith) (omega arith)))
-
-returns-4 : tie.Need-returns-4
-returns-4 c =
-    let p = c .before .before .before .before .before .before .args .p in
-    sym (turned-of (huePoint p) 3 _ _ (hue-turns-3 p (omega arith) (omega arith) (not-first (c .before .before))))
+    let o = c .before .before .before .before in
+    let u = o .before .before .apart in
+    let v = o .before .apart2 in
+    let p = o .before .before .before .before .before .before .args .p in
+    rw (c .chosen4 .ensures .0, c .before .chosen3 .ensures .0, c .before .before .chosen2 .ensures .0, c .before .before .before .chosen .ensures .0, o .differ .ensures)
+    (sym (turned-by-halves p (1732051 * u .result) (1000000 * v .result) _ _ (omega arith, omega arith, omega arith)
+    (omega (arith, u .ensures)) (omega (arith, v .ensures)) refl refl))
 
 pub turned-back-spec : {M : Type 1} → statement M
 turned-back-spec =
@@ -97,20 +95,22 @@ turned-back-spec =
     add-sum
     cast-twice
     mul-twice
-    sub-t10
-    mul-t11
-    sub-t12
-    mul-t13
-    sub-t16
-    mul-t17
-    sub-t18
-    mul-t19
-    sub-t22
-    mul-t23
-    mul-t25
-    mul-t27
-    mul-t29
-    returns
-    returns-2
-    returns-3
-    returns-4)
+    apart-requires
+    mul-u
+    apart-requires-2
+    mul-v
+    mul-upper
+    add-upper
+    mul-upper-2
+    add-upper-2
+    mul-right
+    add-right
+    mul-right-2
+    add-right-2
+    differ-requires
+    chosen-requires
+    chosen-requires-2
+    add-t13
+    chosen-requires-3
+    chosen-requires-4
+    returns)
