@@ -7,6 +7,7 @@ mod runs;
 
 pub use listing::line_separators;
 pub use listing::ring_separators;
+pub use rings::open_ring;
 
 // A run of len segments from number first that may be joined: by its rise, or by its fall; and that one's cost.
 pub struct Join {
