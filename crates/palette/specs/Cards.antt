@@ -1,0 +1,107 @@
+-- Document 01, 'The card'. A card is document 01's own term for a swatch's palette. Assumes nothing.
+--   Branch              a kind, modes chosen level by level, and the pixels whose bins lie in them
+--   members             those of its pixels that the image has; histogramIn, modesFound: their histogram, how many modes it has
+--   child, divide       one mode further; all modes at the levels left
+--   branches, entries   the card: a branch for each entry; labels: each pixel's entry
+use Prim.Native.Nat.{ℕ, _+_, _*_, _/_}
+use mathlib.Core.Bool.{Bool, cond, not, _&&_}
+use mathlib.Core.List.{List, [], _∷_, _++_, map, flatMap}
+use lib.Dec.{eqb}
+use lib.ListN.{length}
+use Rattle.lists.specs.Lists.{total, numbers, filter, firstIndex}
+use Rattle.pixel.specs.declared.Pixel.{Pixel}
+use Rattle.pixel.specs.Colour.{isGrey}
+use Rattle.verdict.specs.Test.{Closeness}
+use Rattle.palette.specs.Levels.{Level, hue, saturation, intensity, greyLevels, colourLevels, binOf, histogram, modesAt, liesIn}
+use Rattle.palette.specs.declared.Entry.{Entry}
+
+pub record Branch : Type 0 where
+  pub kind : ℕ
+  pub hue : ℕ
+  pub saturation : ℕ
+  pub intensity : ℕ
+  pub has : Pixel → Bool
+
+-- 'kind (0 grey, 1 colour)', no mode chosen yet; 'grey: hue and saturation 0'
+abbrev pub allGreys : Branch
+allGreys = record { kind = 0; hue = 0; saturation = 0; intensity = 0; has = isGrey }
+
+abbrev pub allColours : Branch
+allColours = record { kind = 1; hue = 0; saturation = 0; intensity = 0; has = λ p. not (isGrey p) }
+
+unfoldable pub members : List Pixel → Branch → List Pixel
+members ps b = filter (b .has) ps
+
+-- the histogram of a level 'with that parent's pixels only'
+unfoldable pub histogramIn : List Pixel → Level → Branch → List ℕ
+histogramIn ps l b = histogram l (members ps b)
+
+-- a mean, 'halves up'
+unfoldable pub meanOf : List ℕ → ℕ
+meanOf xs = (2 * total xs + length xs) / (2 * length xs)
+
+-- 'kind, three mode numbers, mean R, G, B (halves up) and count'
+unfoldable pub entryOf : List Pixel → Branch → Entry
+entryOf ps b =
+    let own = members ps b in
+    record {
+      kind = b .kind;
+      hue = b .hue;
+      saturation = b .saturation;
+      intensity = b .intensity;
+      red = meanOf (map (λ (p : Pixel). p .red) own);
+      green = meanOf (map (λ (p : Pixel). p .green) own);
+      blue = meanOf (map (λ (p : Pixel). p .blue) own);
+      count = length own;
+    }
+
+module _ (e : Closeness) (ps : List Pixel) where
+  unfoldable pub modesFound : Level → Branch → ℕ
+  modesFound l b = length (modesAt e l (histogramIn ps l b))
+
+  -- the pixel is one of b, and its bin lies in mode m of that histogram
+  unfoldable pub inChild : Level → Branch → ℕ → Pixel → Bool
+  inChild l b m p = b .has p && liesIn e l (histogramIn ps l b) m (binOf l p)
+
+  unfoldable pub child : Level → Branch → ℕ → Branch
+  child hue b m = record { kind = b .kind; hue = m; saturation = b .saturation; intensity = b .intensity; has = inChild hue b m }
+  child saturation b m = record { kind = b .kind; hue = b .hue; saturation = m; intensity = b .intensity; has = inChild saturation b m }
+  child intensity b m = record { kind = b .kind; hue = b .hue; saturation = b .saturation; intensity = m; has = inChild intensity b m }
+
+  -- all modes at the levels left, in their order
+  unfoldable pub divide : List Level → Branch → List Branch
+  divide [] b = b ∷ []
+  divide (l ∷ ls) b = flatMap (λ m. divide ls (child l b m)) (numbers 0 (modesFound l b))
+
+  -- 'No greys, or no coloured pixels, gives no entries of that kind'
+  unfoldable pub divideSome : List Level → Branch → List Branch
+  divideSome ls b = cond (eqb (length (members ps b)) 0) [] (divide ls b)
+
+  -- 'greys by mode, then colours by hue, saturation, intensity mode'
+  unfoldable pub branches : List Branch
+  branches = divideSome greyLevels allGreys ++ divideSome colourLevels allColours
+
+  -- the card as defined, without a limit
+  unfoldable pub entries : List Entry
+  entries = map (entryOf ps) branches
+
+  -- 'Each pixel's label is its entry's number'
+  unfoldable pub label : Pixel → ℕ
+  label p = firstIndex (λ (b : Branch). b .has p) branches
+
+  unfoldable pub labels : List ℕ
+  labels = map label ps
+
+-- the most entries that a card may hold
+unfoldable pub mostEntries : ℕ
+mostEntries = 255
+
+abbrev pub noEntry : Entry
+noEntry = record { kind = 0; hue = 0; saturation = 0; intensity = 0; red = 0; green = 0; blue = 0; count = 0 }
+
+-- pixels from their bytes, three to a pixel; bytes left over are dropped
+unfoldable pub pixelsOf : List ℕ → List Pixel
+pixelsOf [] = []
+pixelsOf (r ∷ []) = []
+pixelsOf (r ∷ g ∷ []) = []
+pixelsOf (r ∷ g ∷ b ∷ rest) = record { red = r; green = g; blue = b } ∷ pixelsOf rest
