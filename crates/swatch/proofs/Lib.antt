@@ -1,0 +1,6 @@
+pub mod Fits
+pub mod Fields
+pub mod Lines
+pub mod Rows
+pub mod Numbers
+pub mod Long

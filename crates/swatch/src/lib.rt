@@ -1,0 +1,21 @@
+// The text of a swatch, and the text of its card.
+use palette::MOST_ENTRIES;
+
+mod input;
+mod printing;
+
+pub use input::read;
+pub use printing::print_card;
+pub use printing::print_number;
+
+// The most pixels that a swatch may have.
+pub const MOST_SWATCH_PIXELS: usize = 16384;
+
+// The most bytes that a card prints: a line of 3 fields, and a line of 8 for each entry.
+pub const PRINTED_MOST: usize = 19 + 49 * MOST_ENTRIES;
+
+// What a swatch's text gives: 0 and how many pixels it has, or the ground on which it is turned down and 0.
+pub struct Reading {
+    pub number: u32,
+    pub pixels: u32,
+}
