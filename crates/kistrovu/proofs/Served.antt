@@ -27,7 +27,7 @@ Numbered [] = Unit {0}
 Numbered (g ∷ gs) = (0 < g .number) × Numbered gs
 
 -- where the number is 0, the first ground does not hold, and the rest give 0
-ground-none : (g : Ground) (gs : List Ground) → 0 < g .number → firstGround (g ∷ gs) ≡ 0 → (g .holds ≡ false) × (firstGround gs ≡ 0)
+pub ground-none : (g : Ground) (gs : List Ground) → 0 < g .number → firstGround (g ∷ gs) ≡ 0 → (g .holds ≡ false) × (firstGround gs ≡ 0)
 ground-none g gs n e = go (g .holds) refl
   where
     go : (t : Bool) → g .holds ≡ t → (g .holds ≡ false) × (firstGround gs ≡ 0)
@@ -56,7 +56,7 @@ pub record Accepted (h : List ℕ) : Type 0 where
   pub bins : length h ≤ 256
   pub counts : total h ≤ 65536
 
-neither : (a b : Bool) → a || b ≡ false → (a ≡ false) × (b ≡ false)
+pub neither : (a b : Bool) → a || b ≡ false → (a ≡ false) × (b ≡ false)
 neither true b e = absurd (false≢true (sym e))
 neither false b e = (refl, e)
 

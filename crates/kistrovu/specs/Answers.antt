@@ -2,7 +2,7 @@
 -- 'a served call's number is 0', and 'returned places past the last bin or entry are zero'. Assumes nothing.
 use Prim.Native.Nat.{ℕ}
 use mathlib.Core.Bool.{Bool, false, cond}
-use mathlib.Core.List.{List, [], map}
+use mathlib.Core.List.{List, [], _∷_, map}
 use lib.Dec.{eqb}
 use lib.IntN.{pos}
 use lib.ListN.{length}
@@ -14,11 +14,17 @@ use Rattle.verdict.specs.declared.Verdict.{Verdict}
 use Rattle.verdict.specs.Test.{Closeness, verdictOf}
 use Rattle.segmentation.specs.Joining.{lineSeparators}
 use Rattle.segmentation.specs.Ring.{ringSeparators}
-use Rattle.kistrovu.specs.Grounds.{fitNumber, verdictNumber, modesNumber}
+use Rattle.palette.specs.declared.Entry.{Entry}
+use Rattle.palette.specs.Cards.{pixelsOf, entries, labels, mostEntries, noEntry}
+use Rattle.swatch.specs.Input.{bytesOf}
+use Rattle.swatch.specs.Output.{printedLine, printedCard, printedMost}
+use Rattle.kistrovu.specs.Grounds.{fitNumber, verdictNumber, modesNumber, cardNumber, programCloseness, textNumber}
 use Rattle.kistrovu.specs.declared.MeasuresAnswer.{MeasuresAnswer}
 use Rattle.kistrovu.specs.declared.FitAnswer.{FitAnswer}
 use Rattle.kistrovu.specs.declared.VerdictAnswer.{VerdictAnswer}
 use Rattle.kistrovu.specs.declared.ModesAnswer.{ModesAnswer}
+use Rattle.kistrovu.specs.declared.Card.{Card}
+use Rattle.kistrovu.specs.declared.Printed.{Printed}
 
 -- the value where the call is served (its number is 0), else the other
 abbrev pub served : {A : Type 0} → ℕ → A → A → A
@@ -59,3 +65,31 @@ ringAnswer e h places = modesAnswer (ringSeparators e h) (modesNumber e h places
 -- the separator list as a line call leaves it: 'overwrites only the first places of the separator list'
 unfoldable pub lineList : Closeness → List ℕ → List ℕ → List ℕ
 lineList e h list = served (modesNumber e h (length list)) (over (lineSeparators e h) list) list
+
+-- the entries of a served card
+unfoldable pub servedEntries : Closeness → List ℕ → ℕ → List Entry
+servedEntries e bytes places = served (cardNumber e bytes places) (entries e (pixelsOf bytes)) []
+
+unfoldable pub cardAnswer : Closeness → List ℕ → ℕ → Card
+cardAnswer e bytes places = record {
+  number = cardNumber e bytes places;
+  len = length (servedEntries e bytes places);
+  entries = padded mostEntries noEntry (servedEntries e bytes places);
+}
+
+-- the label buffer as a card call leaves it: 'overwrites only the labels'
+unfoldable pub labelList : Closeness → List ℕ → List ℕ → List ℕ
+labelList e bytes list = served (cardNumber e bytes (length list)) (labels e (pixelsOf bytes)) list
+
+-- what the program prints for the text of a swatch: 'a turned-down swatch prints one field, the number'
+unfoldable pub printed : List ℕ → List ℕ
+printed text =
+    let ps = pixelsOf (bytesOf text) in
+    served (textNumber text) (printedCard (length ps) programCloseness (entries programCloseness ps)) (printedLine (textNumber text ∷ []))
+
+unfoldable pub printedAnswer : List ℕ → Printed
+printedAnswer text = record {
+  number = textNumber text;
+  len = length (printed text);
+  bytes = padded printedMost 0 (printed text);
+}

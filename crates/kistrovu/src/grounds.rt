@@ -1,10 +1,11 @@
 // The number of a call: the first of the grounds that concern it, or 0.
+use palette::MOST_PIXELS;
 use verdict::MOST_CLOSENESS;
 ghost use mathlib.Core.Path.{_≡_};
 ghost use Prim.Native.Nat.{_≤_};
 ghost use lib.ListN.{length};
 ghost use Rattle.lists.specs.Lists.{total};
-ghost use Rattle.kistrovu.specs.Grounds.{fitNumber, verdictNumber, modesNumber};
+ghost use Rattle.kistrovu.specs.Grounds.{fitNumber, verdictNumber, modesNumber, askedNumber};
 
 // The sum of the counts. With no more than 256 of them it fits, whatever they are.
 fn sum(h: &[u32]) -> u64
@@ -57,6 +58,29 @@ pub fn modes_number(h: &[u32], closeness: u32, places: usize) -> u32
     }
     if places < h.len() {
         return 10;
+    }
+    0
+}
+
+// Of a card, before its entries are found.
+pub fn card_asked(pixels: &[u8], closeness: u32, places: usize) -> u32
+    ensures { λ r. ⌜ r ≡ askedNumber closeness (now (pixels .entry)) places ⌝ }
+{
+    let bytes = pixels.len();
+    if bytes == 0 {
+        return 4;
+    }
+    if 0 < bytes % 3 {
+        return 4;
+    }
+    if MOST_PIXELS < bytes / 3 {
+        return 5;
+    }
+    if MOST_CLOSENESS < closeness {
+        return 8;
+    }
+    if places != bytes / 3 {
+        return 9;
     }
     0
 }

@@ -1,7 +1,10 @@
 // The public calls, and nothing else: what each promises, for every input, served or turned down.
 // No call asks anything of its caller. `now (s .entry)` is the list that was lent, `now (s .exit)` the list that is left.
+use palette::Entry;
+use palette::MOST_ENTRIES;
 use pixel::Measures;
 use pixel::Pixel;
+use swatch::PRINTED_MOST;
 use verdict::Verdict;
 ghost use mathlib.Core.Path.{_≡_};
 ghost use lib.ListN.{length};
@@ -9,10 +12,25 @@ ghost use Rattle.pooling.specs.Blocks.{direction};
 ghost use Rattle.pooling.specs.Best.{Pooled};
 ghost use Rattle.verdict.specs.Exactness.{VerdictSound};
 ghost use Rattle.segmentation.specs.Finished.{LineFinished, RingFinished};
-ghost use Rattle.kistrovu.specs.Answers.{measuresAnswer, fitAnswer, verdictAnswer, lineAnswer, lineList, ringAnswer};
+ghost use Rattle.palette.specs.Cards.{pixelsOf};
+ghost use Rattle.palette.specs.Sound.{SoundCard};
+ghost use Rattle.swatch.specs.Input.{bytesOf};
+ghost use Rattle.kistrovu.specs.Grounds.{programCloseness};
+ghost use Rattle.kistrovu.specs.Answers.{
+  measuresAnswer,
+  fitAnswer,
+  verdictAnswer,
+  lineAnswer,
+  lineList,
+  ringAnswer,
+  cardAnswer,
+  labelList,
+  printedAnswer,
+};
 ghost use Rattle.kistrovu.specs.Facts.{IfServed, RingList};
 
 mod grounds;
+mod printing;
 
 // The answers of the public calls. Each has the call's number: 0 when it is served, else the ground on which it is turned down,
 // with zero in every other figure.
@@ -41,6 +59,28 @@ pub struct VerdictAnswer {
 pub struct ModesAnswer {
     pub number: u32,
     pub separators: u32,
+}
+
+// A card is document 01's own term for the palette of a cloth. The first len places of entries hold it; the rest are zero.
+#[repr(C)]
+pub struct Card {
+    pub number: u32,
+    pub len: u32,
+    pub entries: [Entry; MOST_ENTRIES],
+}
+
+// What the card program prints: the first len of bytes; the rest are zero.
+#[repr(C)]
+pub struct Printed {
+    pub number: u32,
+    pub len: u32,
+    pub bytes: [u8; PRINTED_MOST],
+}
+
+// The number of a text, and how many bytes are printed for it.
+pub struct Said {
+    pub number: u32,
+    pub len: u32,
 }
 
 // The measures of one pixel. No ground concerns it.
@@ -142,5 +182,51 @@ pub extern "C" fn kistrovu_ring_modes(
     ModesAnswer {
         number: 0,
         separators: segmentation::ring_separators(histogram, closeness, separators),
+    }
+}
+
+// The card of an image of three bytes a pixel, and the label of each pixel: its entry's number. Grounds 4, 5, 8, 9, 11.
+#[no_mangle]
+pub extern "C" fn kistrovu_card(pixels: &[u8], closeness: u32, labels: &mut [u8]) -> Card
+    ensures { λ r. ⌜ (r ≡ cardAnswer closeness (now (pixels .entry)) (length (now (labels .entry))))
+        × (now (labels .exit) ≡ labelList closeness (now (pixels .entry)) (now (labels .entry)))
+        × IfServed (r .number) (SoundCard closeness (pixelsOf (now (pixels .entry)))) ⌝ }
+{
+    let number = grounds::card_asked(pixels, closeness, labels.len());
+    if number != 0 {
+        return Card {
+            number,
+            len: 0,
+            entries: palette::no_entries(),
+        };
+    }
+    let made = palette::make_card(pixels, closeness, labels);
+    let entries = made.entries;
+    if MOST_ENTRIES < made.total as usize {
+        return Card {
+            number: 11,
+            len: 0,
+            entries,
+        };
+    }
+    Card {
+        number: 0,
+        len: made.total,
+        entries,
+    }
+}
+
+// What the card program prints for the text of a swatch. Grounds 1, 2, 3, 11.
+#[no_mangle]
+pub extern "C" fn kistrovu_print_card(text: &[u8]) -> Printed
+    ensures { λ r. ⌜ (r ≡ printedAnswer (now (text .entry)))
+        × IfServed (r .number) (SoundCard programCloseness (pixelsOf (bytesOf (now (text .entry))))) ⌝ }
+{
+    let mut bytes = [0u8; PRINTED_MOST];
+    let said = printing::print(text, &mut bytes);
+    Printed {
+        number: said.number,
+        len: said.len,
+        bytes,
     }
 }

@@ -1,0 +1,123 @@
+-- What the card call answers and leaves, by its number; a card made twice is one card. Assumes nothing.
+use Prim.Native.Nat.{ℕ, _*_, _/_, _%_, _≤_, _<_}
+use mathlib.Core.Path.{_≡_, refl, sym, ap, _∙_}
+use mathlib.Core.Bool.{Bool, true, false, cond, not, _||_, false≢true}
+use mathlib.Core.List.{List, [], _∷_, _++_}
+use lib.Dec.{eqb, ltb, leb}
+use lib.ListN.{length, getD}
+use native.Mathlib.Omega.{arith}
+use native.Mathlib.Nat.{div-add-mod}
+use borrow.Author.Tests.{ltb-false, eqb-true, ne-eqb, eq-eqb, lt-ltb, le-ltb, lt-leb, le-leb}
+use Rattle.lists.specs.Lists.{padded}
+use Rattle.pixel.specs.declared.Pixel.{Pixel}
+use Rattle.verdict.specs.Test.{Closeness, mostCloseness}
+use Rattle.palette.specs.declared.Entry.{Entry}
+use Rattle.palette.specs.declared.CardEntries.{CardEntries}
+use Rattle.palette.specs.Cards.{pixelsOf, entries, labels, mostEntries, noEntry}
+use Rattle.palette.specs.Sound.{mostPixels, SoundCard}
+use Rattle.palette.proofs.Always.{always-sound}
+use Rattle.palette.proofs.Triples.{pixels-length}
+use Rattle.palette.proofs.FirstStage.{pixels-bytes}
+use Rattle.palette.specs.Making.{fits, cardEntries, labelsLeft}
+use Rattle.kistrovu.specs.declared.Card.{Card}
+use Rattle.kistrovu.specs.Grounds.{Ground, firstGround, badBytes, manyPixels, badCloseness, badLabels, manyEntries, askedNumber, cardNumber}
+use Rattle.kistrovu.specs.Answers.{servedEntries, cardAnswer, labelList}
+use Rattle.kistrovu.specs.Facts.{CardAgain}
+use Rattle.kistrovu.proofs.Served.{ground-none, ground-passes, ground-holds, grounds-served, grounds-turned-down, neither}
+
+abbrev pub made : ℕ → ℕ → List Entry → Card
+made n len es = record { number = n; len = len; entries = es }
+
+-- ---- the grounds that are asked before the entries are found
+pub record Asked (e : Closeness) (bytes : List ℕ) (places : ℕ) : Type 0 where
+  pub threes : length bytes ≡ 3 * places
+  pub few : places ≤ mostPixels
+  pub close : e ≤ mostCloseness
+
+unlike : (b : Bool) → not b ≡ false → b ≡ true
+unlike true q = refl
+unlike false q = absurd (false≢true (sym q))
+
+module _ (e : Closeness) (bytes : List ℕ) (places : ℕ) where
+  pub card-turned-down : ¬ (askedNumber e bytes places ≡ 0) → cardNumber e bytes places ≡ askedNumber e bytes places
+  unfolding askedNumber cardNumber
+  card-turned-down n = grounds-turned-down (badBytes bytes ∷ manyPixels bytes ∷ badCloseness e ∷ badLabels bytes places ∷ []) (manyEntries e bytes ∷ []) n
+
+  pub card-asked : askedNumber e bytes places ≡ 0 → cardNumber e bytes places ≡ firstGround (manyEntries e bytes ∷ [])
+  unfolding askedNumber cardNumber
+  card-asked z =
+      grounds-served (badBytes bytes ∷ manyPixels bytes ∷ badCloseness e ∷ badLabels bytes places ∷ []) (manyEntries e bytes ∷ [])
+      (omega arith, (omega arith, (omega arith, (omega arith, tt)))) z
+
+  pub asked-none : askedNumber e bytes places ≡ 0 → Asked e bytes places
+  unfolding askedNumber
+  asked-none z =
+      let a = ground-none (badBytes bytes) (manyPixels bytes ∷ badCloseness e ∷ badLabels bytes places ∷ []) (omega arith) z in
+      let b = ground-none (manyPixels bytes) (badCloseness e ∷ badLabels bytes places ∷ []) (omega arith) (a .1) in
+      let c = ground-none (badCloseness e) (badLabels bytes places ∷ []) (omega arith) (b .1) in
+      let d = ground-none (badLabels bytes places) [] (omega arith) (c .1) in
+      let rest = ltb-false 0 (length bytes % 3) (neither (eqb (length bytes) 0) (ltb 0 (length bytes % 3)) (a .0) .1) in
+      let same : places ≡ length bytes / 3 = eqb-true places (length bytes / 3) (unlike (eqb places (length bytes / 3)) (d .0)) in
+      record {
+        threes = omega (arith, div-add-mod (length bytes) 3, rest, same);
+        few = omega (arith, same, ltb-false mostPixels (length bytes / 3) (b .0));
+        close = ltb-false mostCloseness e (c .0);
+      }
+
+-- ---- the answer and the labels, by the number
+module _ (e : Closeness) (bytes lent : List ℕ) (n : ℕ) (is : n ≡ cardNumber e bytes (length lent)) where
+  pub card-refused : ¬ (n ≡ 0) → made n 0 (padded mostEntries noEntry []) ≡ cardAnswer e bytes (length lent)
+  unfolding cardAnswer servedEntries
+  card-refused some = rw (sym is, ne-eqb n 0 some) refl
+
+  pub labels-as-lent : ¬ (n ≡ 0) → lent ≡ labelList e bytes lent
+  unfolding labelList
+  labels-as-lent some = rw (sym is, ne-eqb n 0 some) refl
+
+  pub card-served : n ≡ 0 → made 0 (length (entries e (pixelsOf bytes))) (padded mostEntries noEntry (entries e (pixelsOf bytes))) ≡ cardAnswer e bytes (length lent)
+  unfolding cardAnswer servedEntries
+  card-served z = rw (sym is, z) refl
+
+  pub labels-served : n ≡ 0 → labels e (pixelsOf bytes) ≡ labelList e bytes lent
+  unfolding labelList
+  labels-served z = rw (sym is, z) refl
+
+-- ---- more entries than a card may hold, or not
+module _ (e : Closeness) (bytes : List ℕ) (places total : ℕ) (none : askedNumber e bytes places ≡ 0) (is : total ≡ length (entries e (pixelsOf bytes))) where
+  pub many-number : mostEntries < total → 11 ≡ cardNumber e bytes places
+  unfolding firstGround
+  many-number l = sym (card-asked e bytes places none ∙ rw (sym is, lt-ltb mostEntries total l) refl)
+
+  pub few-number : total ≤ mostEntries → 0 ≡ cardNumber e bytes places
+  unfolding firstGround
+  few-number l = sym (card-asked e bytes places none ∙ rw (sym is, le-ltb mostEntries total l) refl)
+
+  pub many-entries : mostEntries < total → cardEntries e (pixelsOf bytes) .entries ≡ padded mostEntries noEntry []
+  unfolding cardEntries
+  many-entries l = rw (sym is, lt-leb total mostEntries l) refl
+
+  pub few-entries : total ≤ mostEntries → cardEntries e (pixelsOf bytes) .entries ≡ padded mostEntries noEntry (entries e (pixelsOf bytes))
+  unfolding cardEntries
+  few-entries l = rw (sym is, le-leb total mostEntries l) refl
+
+  pub many-left : mostEntries < total → (lent : List ℕ) → labelsLeft e (pixelsOf bytes) lent ≡ lent
+  unfolding labelsLeft
+  many-left l lent = rw (sym is, lt-leb total mostEntries l) refl
+
+  pub few-left : total ≤ mostEntries → (lent : List ℕ) → labelsLeft e (pixelsOf bytes) lent ≡ labels e (pixelsOf bytes)
+  unfolding labelsLeft
+  few-left l lent = rw (sym is, le-leb total mostEntries l) refl
+
+pub card-again : CardAgain
+unfolding labelList
+card-again e bytes before before′ same =
+    (ap (cardAnswer e bytes) same, λ z. let y : cardNumber e bytes (length before′) ≡ 0 = sym (ap (cardNumber e bytes) same) ∙ z in rw (z, y) refl)
+
+pub total-is : (e : Closeness) (ps : List Pixel) → cardEntries e ps .total ≡ length (entries e ps)
+unfolding cardEntries
+total-is e ps = refl
+
+-- demand 3 of an image that no ground before the entries turns down
+pub card-sound : (e : Closeness) (bytes : List ℕ) (places : ℕ) → ((j : ℕ) → getD bytes j 0 < 256) → Asked e bytes places → SoundCard e (pixelsOf bytes)
+card-sound e bytes places byte a =
+    always-sound e (pixelsOf bytes) (omega (arith, pixels-length bytes places (a .threes), a .few)) (λ i l. pixels-bytes bytes byte i)
