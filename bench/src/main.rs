@@ -4,14 +4,18 @@
 //!
 //!     cargo run --release
 //!
-//! KISTROVU_LIB names another folder to take `libkistrovu.a` from. Both are first held against the reference; a wrong
+//! KISTROVU_LIB names another folder to take `libkistrovu.a` from; `--only cards` times cards alone. Both are first held against the reference; a wrong
 //! answer is not timed and ends the run. Lines that the reference would take too long for are held against it on
 //! smaller lines of the same making, and at full length the engine against the Rust program. The two take turns in
 //! short rounds, and the figures are medians over the rounds: times of different runs say little about each other, the
 //! ratio of one run does.
 
+mod cards;
 mod cases;
 mod fast;
+mod fast_cards;
+mod others;
+mod picture;
 
 use cases::{Case, LineCase};
 use reference::calls::FitAnswer;
@@ -25,23 +29,39 @@ const LEAST_ROUNDS: f64 = 5.0;
 const ROUND_NANOSECONDS: f64 = 4e6;
 /// Calls that take longer than a round get fewer rounds.
 const CASE_NANOSECONDS: f64 = 4e9;
-const CLOSENESS: u32 = 0;
+pub const CLOSENESS: u32 = 0;
 const RISING: bool = true;
 
 fn main() -> ExitCode {
-    let (fits, verdicts, lines) = (cases::fits(), cases::verdicts(), cases::lines());
+    let words: Vec<String> = std::env::args().skip(1).collect();
+    let only_cards = match words.join(" ").as_str() {
+        "" => false,
+        "--only cards" => true,
+        _ => {
+            eprintln!("usage: bench [--only cards]");
+            return ExitCode::from(2);
+        }
+    };
+    let (mut fits, mut verdicts, mut lines) = (cases::fits(), cases::verdicts(), cases::lines());
+    if only_cards {
+        fits.clear();
+        verdicts.clear();
+        lines.clear();
+    }
+    let cloths = cards::cloths();
     let wrong: Vec<String> = fits
         .iter()
         .filter_map(wrong_fit)
         .chain(verdicts.iter().filter_map(wrong_verdict))
         .chain(lines.iter().filter_map(wrong_line))
+        .chain(cloths.iter().filter_map(cards::wrong))
         .collect();
     if !wrong.is_empty() {
         eprintln!("not timed, wrong: {}", wrong.join("; "));
         return ExitCode::FAILURE;
     }
     println!(
-        "{:32} {:>12} {:>12} {:>7}  parts without a logarithm",
+        "{:32} {:>12} {:>12} {:>7}",
         "", "engine, ns", "Rust, ns", "ratio"
     );
     for case in fits {
@@ -53,6 +73,7 @@ fn main() -> ExitCode {
     for case in lines {
         time_line(case.line);
     }
+    cards::time(&cloths);
     ExitCode::SUCCESS
 }
 
@@ -162,7 +183,7 @@ fn time_verdict(case: Case) {
         "verdict",
         case.name,
         times,
-        &format!("{share:.1}% of {parts}"),
+        &format!("{share:.1}% of {parts} parts without a logarithm"),
     );
 }
 
@@ -188,14 +209,17 @@ fn time_line(case: Case) {
     print("line", case.name, times, "");
 }
 
-/// Nanoseconds of one call, of the first and of the second, and the ratio: each a median over the rounds.
-fn medians(mut first: impl FnMut(), mut second: impl FnMut()) -> [f64; 3] {
+/// Nanoseconds of one call, of the first and of the second, and the ratio: each a median over the rounds. Which of the
+/// two comes first in a round changes, since a machine that is shared may not treat both places alike.
+pub fn medians(mut first: impl FnMut(), mut second: impl FnMut()) -> [f64; 3] {
     let call = per_call(1, &mut first).max(1.0);
     let calls = (ROUND_NANOSECONDS / call).ceil() as u32;
     let rounds = (CASE_NANOSECONDS / call).clamp(LEAST_ROUNDS, MOST_ROUNDS) as usize;
     let mut figures = [const { Vec::new() }; 3];
-    for _ in 0..rounds {
-        let (a, b) = (per_call(calls, &mut first), per_call(calls, &mut second));
+    for round in 0..rounds {
+        let early = (round % 2 == 0).then(|| per_call(calls, &mut first));
+        let b = per_call(calls, &mut second);
+        let a = early.unwrap_or_else(|| per_call(calls, &mut first));
         for (list, figure) in figures.iter_mut().zip([a, b, a / b]) {
             list.push(figure);
         }
@@ -214,7 +238,7 @@ fn per_call(calls: u32, call: &mut impl FnMut()) -> f64 {
     start.elapsed().as_nanos() as f64 / f64::from(calls)
 }
 
-fn print(call: &str, name: &str, [engine, fast, ratio]: [f64; 3], share: &str) {
+pub fn print(call: &str, name: &str, [engine, fast, ratio]: [f64; 3], share: &str) {
     println!(
         "{:32} {engine:12.0} {fast:12.0} {ratio:7.2}  {share}",
         format!("{call}, {name}")

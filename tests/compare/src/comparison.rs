@@ -12,6 +12,42 @@ pub struct Calls {
     pub verdicts: bool,
     pub lines: bool,
     pub rings: bool,
+    pub cards: bool,
+    pub texts: bool,
+    pub stored: bool,
+}
+
+impl Calls {
+    pub fn all(compared: bool) -> Calls {
+        Calls {
+            measures: compared,
+            fits: compared,
+            verdicts: compared,
+            lines: compared,
+            rings: compared,
+            cards: compared,
+            texts: compared,
+            stored: compared,
+        }
+    }
+
+    /// By name.
+    pub fn only(name: &str) -> Option<Calls> {
+        let mut calls = Calls::all(false);
+        let call = match name {
+            "measures" => &mut calls.measures,
+            "fits" => &mut calls.fits,
+            "verdicts" => &mut calls.verdicts,
+            "lines" => &mut calls.lines,
+            "rings" => &mut calls.rings,
+            "cards" => &mut calls.cards,
+            "texts" => &mut calls.texts,
+            "stored" => &mut calls.stored,
+            _ => return None,
+        };
+        *call = true;
+        Some(calls)
+    }
 }
 
 /// Bins in a line, or round a ring.
@@ -28,7 +64,15 @@ pub struct Tally {
     pub fits: u64,
     pub verdicts: u64,
     pub modes: u64,
+    pub cards: u64,
+    pub texts: u64,
+    pub stored: u64,
+    /// Of several modes, or of several entries.
     pub several: u64,
+    /// The most entries of a card.
+    pub most: u32,
+    /// Texts by number.
+    pub grounds: [u64; 12],
     pub served: u64,
     pub turned_down: u64,
     pub rejected: u64,
@@ -36,7 +80,7 @@ pub struct Tally {
 }
 
 impl Tally {
-    fn count(&mut self, number: u32) {
+    pub fn count(&mut self, number: u32) {
         if number == 0 {
             self.served += 1;
         } else {

@@ -1,8 +1,8 @@
 //! The named groups of histograms, each of which is one test.
 
-use crate::random::Random;
 use crate::shapes::{self, Shape, SHAPES};
 use crate::ties::TIES;
+use cloths::random::Random;
 use reference::calls::{MOST_BINS, MOST_CLOSENESS};
 
 /// A histogram and the closenesses at which it is judged. Both directions are always taken.

@@ -2,36 +2,47 @@
 //!
 //! In `tests/`, after `rt staticlib kistrovu` at the repository's root:
 //!
-//!     cargo run --release -p compare -- [--seed S] [--count N] [--only measures|fits|verdicts|lines|rings]
+//!     cargo run --release -p compare -- [--seed S] [--count N] [--only CALLS]
 //!
-//! KISTROVU_LIB names another folder to take `libkistrovu.a` from. Without arguments the run is the same every time:
-//! all pixels, the listed histograms, lines and rings, and drawn ones: `COUNT` histograms, and the shares of `COUNT`
-//! that `mode_groups.rs` gives to lines and to rings. Each group prints a line; at a difference the group
-//! ends with the input and both answers. The last line is the number of groups passed and failed, and the exit code
-//! is 1 if one failed.
+//! CALLS is one of measures, fits, verdicts, lines, rings, cards, texts and stored. KISTROVU_LIB names another folder to
+//! take `libkistrovu.a` from; KISTROVU_CARD names the card program, which is then run on the stored swatches too.
+//! Without arguments the run is the same every time: all pixels, the listed histograms, lines, rings, swatches and texts,
+//! and drawn ones: `COUNT` histograms, and the shares of `COUNT` that the lists of groups give. Each group prints a
+//! line; at a difference the group ends with the input and both answers. The last line is the number of groups passed
+//! and failed, and the exit code is 1 if one failed.
 
+mod card_comparison;
+mod card_groups;
+mod card_shapes;
 mod comparison;
+mod damage;
 mod groups;
 mod mode_groups;
 mod mode_shapes;
 mod mode_ties;
-mod random;
 mod shapes;
+mod stored;
+mod text_groups;
 mod ties;
 
+use card_groups::CARDS;
+use cloths::random::Random;
 use comparison::{Calls, Difference, Form, Tally};
 use groups::{Source, GROUPS};
 use mode_groups::{ModesSource, BOTH, LINES, RINGS};
-use random::Random;
 use std::process::ExitCode;
+use text_groups::TEXTS;
 
 const SEED: u64 = 1;
 const COUNT: usize = 100_000;
-/// The first streams of lines and rings, far enough apart that one group more moves none of the others.
+/// The first streams of each kind of groups, far enough apart that one group more moves none of the others.
 const LINE_STREAMS: usize = 100;
 const RING_STREAMS: usize = 200;
-const USAGE: &str =
-    "usage: compare [--seed S] [--count N] [--only measures|fits|verdicts|lines|rings]";
+const CARD_STREAMS: usize = 300;
+const TEXT_STREAMS: usize = 400;
+const PROGRAM_STREAM: usize = 500;
+const USAGE: &str = "usage: compare [--seed S] [--count N] \
+    [--only measures|fits|verdicts|lines|rings|cards|texts|stored]";
 
 struct Options {
     seed: u64,
@@ -53,24 +64,10 @@ fn main() -> ExitCode {
 }
 
 fn options(mut words: impl Iterator<Item = String>) -> Result<Options, String> {
-    let all = Calls {
-        measures: true,
-        fits: true,
-        verdicts: true,
-        lines: true,
-        rings: true,
-    };
-    let none = Calls {
-        measures: false,
-        fits: false,
-        verdicts: false,
-        lines: false,
-        rings: false,
-    };
     let mut options = Options {
         seed: SEED,
         count: COUNT,
-        calls: all,
+        calls: Calls::all(true),
     };
     while let Some(word) = words.next() {
         let value = words.next().ok_or(format!("{word} wants a value"))?;
@@ -79,35 +76,11 @@ fn options(mut words: impl Iterator<Item = String>) -> Result<Options, String> {
                 .parse::<u64>()
                 .map_err(|_| format!("{value} is not a number"))
         };
-        match (word.as_str(), value.as_str()) {
-            ("--seed", _) => options.seed = number()?,
-            ("--count", _) => options.count = number()? as usize,
-            ("--only", "measures") => {
-                options.calls = Calls {
-                    measures: true,
-                    ..none
-                }
-            }
-            ("--only", "fits") => options.calls = Calls { fits: true, ..none },
-            ("--only", "verdicts") => {
-                options.calls = Calls {
-                    verdicts: true,
-                    ..none
-                }
-            }
-            ("--only", "lines") => {
-                options.calls = Calls {
-                    lines: true,
-                    ..none
-                }
-            }
-            ("--only", "rings") => {
-                options.calls = Calls {
-                    rings: true,
-                    ..none
-                }
-            }
-            _ => return Err(format!("unknown: {word} {value}")),
+        match word.as_str() {
+            "--seed" => options.seed = number()?,
+            "--count" => options.count = number()? as usize,
+            "--only" => options.calls = Calls::only(&value).ok_or(format!("unknown: {value}"))?,
+            _ => return Err(format!("unknown: {word}")),
         }
     }
     Ok(options)
@@ -149,6 +122,42 @@ fn run(options: &Options) -> (usize, usize) {
     if options.calls.rings {
         modes(Form::Ring, &RINGS, RING_STREAMS);
     }
+    if options.calls.cards {
+        for (index, (name, source)) in CARDS.iter().enumerate() {
+            let mut tally = Tally::default();
+            let mut random = stream(options.seed, CARD_STREAMS + index);
+            let outcome = source.each(&mut random, options.count, |case| {
+                card_comparison::card(case, &mut tally)
+            });
+            note(&format!("card, {name}"), tally, outcome);
+        }
+    }
+    if options.calls.texts {
+        for (index, (name, source)) in TEXTS.iter().enumerate() {
+            let mut tally = Tally::default();
+            let mut random = stream(options.seed, TEXT_STREAMS + index);
+            let outcome = source.each(&mut random, options.count, |text| {
+                card_comparison::text(text, &mut tally)
+            });
+            note(&format!("text, {name}"), tally, outcome);
+        }
+    }
+    if options.calls.stored {
+        let mut tally = Tally::default();
+        let outcome = stored::by_call(&mut tally);
+        note("stored swatches, by the call", tally, outcome);
+        if let Some(program) = stored::program() {
+            let mut tally = Tally::default();
+            let outcome = stored::by_program(&program, &mut tally);
+            note("stored swatches, by the program", tally, outcome);
+            let mut tally = Tally::default();
+            let mut random = stream(options.seed, PROGRAM_STREAM);
+            let outcome = stored::long_by_program(&program, &mut random, &mut tally);
+            note("very long texts, by the program", tally, outcome);
+        } else {
+            println!("-      stored swatches, by the program: not run, KISTROVU_CARD is not set");
+        }
+    }
     (passed, failed)
 }
 
@@ -179,7 +188,7 @@ fn compare_modes(
 }
 
 fn stream(seed: u64, index: usize) -> Random {
-    Random::new(Random::new(seed).next() ^ index as u64)
+    Random::new(Random::new(seed).bits() ^ index as u64)
 }
 
 fn report(name: &str, tally: &Tally, difference: Option<Difference>) {
@@ -190,6 +199,24 @@ fn report(name: &str, tally: &Tally, difference: Option<Difference>) {
             "{} histograms, {} served, {} turned down, {} of several modes",
             tally.modes, tally.served, tally.turned_down, tally.several
         )
+    } else if tally.cards > 0 {
+        format!(
+            "{} swatches, {} served, {} turned down, {} of several entries, {} at most",
+            tally.cards, tally.served, tally.turned_down, tally.several, tally.most
+        )
+    } else if tally.texts > 0 {
+        let numbers = tally.grounds.iter().enumerate().skip(1);
+        let grounds = numbers.filter(|(_, &count)| count > 0);
+        let down: Vec<String> = grounds
+            .map(|(n, count)| format!("{count} with {n}"))
+            .collect();
+        let down = down.join(", ");
+        format!(
+            "{} texts, {} served, {} turned down ({down})",
+            tally.texts, tally.served, tally.turned_down
+        )
+    } else if tally.stored > 0 {
+        format!("{} swatches", tally.stored)
     } else {
         format!(
             "{} histograms, {} fits, {} verdicts, {} served, {} turned down, {} rejected",

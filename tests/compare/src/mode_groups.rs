@@ -2,8 +2,8 @@
 
 use crate::mode_shapes;
 use crate::mode_ties::MODE_TIES;
-use crate::random::Random;
 use crate::shapes::{self, Shape, SHAPES};
+use cloths::random::Random;
 use reference::calls::{MOST_BINS, MOST_CLOSENESS};
 
 /// A histogram, the closeness, and how many places are lent for its separators.

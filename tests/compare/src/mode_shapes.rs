@@ -1,7 +1,7 @@
 //! Random histograms for lines and rings, beside those of `shapes`.
 
-use crate::random::Random;
 use crate::shapes::SHAPES;
+use cloths::random::Random;
 
 /// Most of 4 to 24 bins: the reference weighs every part of every run, and those are as many as the fourth power of
 /// the bins.

@@ -1,6 +1,6 @@
 //! Random histograms of many shapes. A shape takes the number of bins.
 
-use crate::random::Random;
+use cloths::random::Random;
 
 pub type Shape = fn(&mut Random, usize) -> Vec<u32>;
 
@@ -185,7 +185,7 @@ pub fn huge(random: &mut Random, bins: usize) -> Vec<u32> {
         }
         1 => (0..bins).map(|_| u32::MAX - random.within(0, 3)).collect(),
         _ => {
-            let mut histogram: Vec<u32> = (0..bins).map(|_| random.next() as u32).collect();
+            let mut histogram: Vec<u32> = (0..bins).map(|_| random.bits() as u32).collect();
             let rest = histogram[1..]
                 .iter()
                 .fold(0u32, |sum, &count| sum.wrapping_add(count));

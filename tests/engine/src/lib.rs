@@ -1,6 +1,10 @@
 //! The engine's public calls, as its static library exports them. Flags come back as bytes and are compared as bytes,
 //! so that one which is neither 0 nor 1 shows up as a difference. Building it needs the static library (`build.rs`).
 
+mod cards;
+
+pub use cards::{card, print_card, Card, Entry, Printed};
+
 use reference::calls::{self, MOST_BINS};
 
 #[repr(C)]

@@ -1,14 +1,21 @@
 //! The public calls: the grounds that concern them, and their answers, served or turned down.
 
+use crate::cards::{self, Entry, Pixel};
 use crate::measures::{self, Measures};
 use crate::test::{self, Verdict};
-use crate::{lines, pooling, rings};
+use crate::{lines, pooling, rings, swatches};
 
 /// The most bins of a histogram, and so the places of a fit.
 pub const MOST_BINS: usize = 256;
 pub const LEAST_BINS: usize = 2;
 pub const MOST_PIXELS: u128 = 65_536;
 pub const MOST_CLOSENESS: u32 = 20;
+/// The most entries that a card may hold.
+pub const MOST_ENTRIES: usize = 255;
+/// The most bytes printed: a line of 3 fields of 6 columns, and a line of 8 for each entry.
+pub const MOST_PRINTED: usize = 19 + 49 * MOST_ENTRIES;
+/// The closeness at which the card program works.
+pub const PROGRAM_CLOSENESS: u32 = 0;
 
 #[derive(Clone, Copy, Debug, PartialEq, Eq)]
 pub struct MeasuresAnswer {
@@ -34,6 +41,22 @@ pub struct VerdictAnswer {
 pub struct ModesAnswer {
     pub number: u32,
     pub separators: u32,
+}
+
+/// The first `len` entries are the card's; the labels are in the buffer that was lent.
+#[derive(Clone, Copy, Debug, PartialEq, Eq)]
+pub struct CardAnswer {
+    pub number: u32,
+    pub len: u32,
+    pub entries: [Entry; MOST_ENTRIES],
+}
+
+/// The first `len` bytes are what the card program prints.
+#[derive(Clone, Copy, Debug, PartialEq, Eq)]
+pub struct PrintedAnswer {
+    pub number: u32,
+    pub len: u32,
+    pub bytes: [u8; MOST_PRINTED],
 }
 
 pub fn measures(red: u8, green: u8, blue: u8) -> MeasuresAnswer {
@@ -104,17 +127,81 @@ fn modes(
     }
 }
 
+pub fn card(bytes: &[u8], closeness: u32, labels: &mut [u8]) -> CardAnswer {
+    let mut answer = CardAnswer {
+        number: first_card_ground(bytes, closeness, labels.len()),
+        len: 0,
+        entries: [Entry::default(); MOST_ENTRIES],
+    };
+    if answer.number != 0 {
+        return answer;
+    }
+    let pixels: Vec<Pixel> = bytes
+        .chunks(3)
+        .map(|rgb| [rgb[0], rgb[1], rgb[2]])
+        .collect();
+    let card = cards::card(&pixels, closeness);
+    if card.entries.len() > MOST_ENTRIES {
+        answer.number = 11;
+        return answer;
+    }
+    answer.len = card.entries.len() as u32;
+    answer.entries[..card.entries.len()].copy_from_slice(&card.entries);
+    for (place, &label) in labels.iter_mut().zip(&card.labels) {
+        *place = label as u8;
+    }
+    answer
+}
+
+/// What the card program prints for the text of a swatch.
+pub fn print_card(text: &[u8]) -> PrintedAnswer {
+    let outcome = swatches::read(text).and_then(|pixels| {
+        let bytes = pixels.concat();
+        let card = card(&bytes, PROGRAM_CLOSENESS, &mut vec![0; pixels.len()]);
+        let entries = &card.entries[..card.len as usize];
+        let printed = swatches::printed_card(entries, pixels.len(), PROGRAM_CLOSENESS);
+        if card.number == 0 {
+            Ok(printed)
+        } else {
+            Err(card.number)
+        }
+    });
+    let number = outcome.as_ref().err().copied().unwrap_or(0);
+    let printed = outcome.unwrap_or_else(swatches::printed_number);
+    let mut answer = PrintedAnswer {
+        number,
+        len: printed.len() as u32,
+        bytes: [0; MOST_PRINTED],
+    };
+    answer.bytes[..printed.len()].copy_from_slice(printed.as_bytes());
+    answer
+}
+
+/// The number of the first ground before 11 that holds, 0 when none does.
+fn first_card_ground(bytes: &[u8], closeness: u32, places: usize) -> u32 {
+    let pixels = bytes.len() / 3;
+    first_of(&[
+        (4, bytes.is_empty() || !bytes.len().is_multiple_of(3)),
+        (5, pixels as u128 > MOST_PIXELS),
+        (8, closeness > MOST_CLOSENESS),
+        (9, places != pixels),
+    ])
+}
+
 /// The number of the first ground that holds, 0 when none does. A fit has no closeness, and only modes are listed in
 /// places that were lent.
 pub fn first_ground(histogram: &[u32], closeness: Option<u32>, places: Option<usize>) -> u32 {
     let bins = histogram.len();
     let sum: u128 = histogram.iter().map(|&count| u128::from(count)).sum();
-    let grounds = [
+    first_of(&[
         (6, !(LEAST_BINS..=MOST_BINS).contains(&bins)),
         (7, sum > MOST_PIXELS),
         (8, closeness.is_some_and(|e| e > MOST_CLOSENESS)),
         (10, places.is_some_and(|places| places < bins)),
-    ];
+    ])
+}
+
+fn first_of(grounds: &[(u32, bool)]) -> u32 {
     grounds
         .iter()
         .find(|(_, holds)| *holds)
@@ -123,142 +210,4 @@ pub fn first_ground(histogram: &[u32], closeness: Option<u32>, places: Option<us
 
 fn widened(histogram: &[u32]) -> Vec<u64> {
     histogram.iter().map(|&count| u64::from(count)).collect()
-}
-
-#[cfg(test)]
-mod tests {
-    use super::*;
-
-    const NO_VERDICT: Verdict = Verdict {
-        cost: 0,
-        rejected: false,
-    };
-
-    #[test]
-    fn bins_are_2_to_256() {
-        for (bins, number) in [(0, 6), (1, 6), (2, 0), (256, 0), (257, 6)] {
-            let histogram = vec![1; bins];
-            assert_eq!(fit(&histogram, true).number, number);
-            assert_eq!(verdict(&histogram, false, 0).number, number);
-        }
-    }
-
-    #[test]
-    fn counts_sum_to_65_536_at_most() {
-        for (last, number) in [(0, 0), (1, 0), (2, 7), (u32::MAX, 7)] {
-            let histogram = [65_535, last];
-            assert_eq!(fit(&histogram, true).number, number);
-            assert_eq!(verdict(&histogram, true, 20).number, number);
-        }
-        assert_eq!(fit(&[u32::MAX; 256], true).number, 7);
-    }
-
-    #[test]
-    fn closeness_is_20_at_most() {
-        for (closeness, number) in [(20, 0), (21, 8), (u32::MAX, 8)] {
-            assert_eq!(verdict(&[3, 1], true, closeness).number, number);
-        }
-    }
-
-    #[test]
-    fn the_first_ground_counts() {
-        let turned_down = |number| VerdictAnswer {
-            number,
-            verdict: NO_VERDICT,
-        };
-        assert_eq!(verdict(&[u32::MAX; 257], true, 21), turned_down(6));
-        assert_eq!(verdict(&[u32::MAX; 256], true, 21), turned_down(7));
-        assert_eq!(verdict(&[9, 0, 9, 0], true, 21), turned_down(8));
-    }
-
-    #[test]
-    fn a_fit_turned_down_is_zero() {
-        assert_eq!(
-            fit(&[5], true),
-            FitAnswer {
-                number: 6,
-                sums: [0; 256],
-                lengths: [0; 256]
-            }
-        );
-    }
-
-    #[test]
-    fn places_past_the_last_bin_are_zero() {
-        let answer = fit(&[1, 3, 2], true);
-        assert_eq!(answer.sums[..4], [1, 5, 5, 0]);
-        assert_eq!(answer.lengths[..4], [1, 2, 2, 0]);
-        assert!(answer.sums[3..]
-            .iter()
-            .chain(&answer.lengths[3..])
-            .all(|&figure| figure == 0));
-    }
-
-    const CALLS: [fn(&[u32], u32, &mut [u32]) -> ModesAnswer; 2] = [line_modes, ring_modes];
-
-    fn modes_turned_down(number: u32) -> ModesAnswer {
-        ModesAnswer {
-            number,
-            separators: 0,
-        }
-    }
-
-    #[test]
-    fn modes_of_the_paper() {
-        let mut list = [9; 7];
-        let two = ModesAnswer {
-            number: 0,
-            separators: 3,
-        };
-        assert_eq!(line_modes(&[0, 20, 0, 20, 0], 13, &mut list), two);
-        assert_eq!(list, [0, 2, 4, 9, 9, 9, 9]);
-        let one = ModesAnswer {
-            number: 0,
-            separators: 2,
-        };
-        assert_eq!(line_modes(&[0, 1, 0, 1, 0], 0, &mut list), one);
-        assert_eq!(list, [0, 4, 4, 9, 9, 9, 9]);
-    }
-
-    #[test]
-    fn modes_are_turned_down_on_four_grounds() {
-        for call in CALLS {
-            for (bins, number) in [(0, 6), (1, 6), (2, 0), (256, 0), (257, 6)] {
-                assert_eq!(call(&vec![1; bins], 0, &mut [0; 300]).number, number);
-            }
-            for (last, number) in [(1, 0), (2, 7), (u32::MAX, 7)] {
-                assert_eq!(call(&[65_535, last], 20, &mut [0; 2]).number, number);
-            }
-            for (closeness, number) in [(20, 0), (21, 8), (u32::MAX, 8)] {
-                assert_eq!(call(&[3, 1], closeness, &mut [0; 2]).number, number);
-            }
-            for (places, number) in [(0, 10), (2, 10), (3, 0), (4, 0)] {
-                assert_eq!(call(&[3, 1, 2], 0, &mut vec![0; places]).number, number);
-            }
-        }
-    }
-
-    #[test]
-    fn modes_turned_down_leave_the_list() {
-        for call in CALLS {
-            let mut list = [7, 8];
-            assert_eq!(call(&[u32::MAX; 257], 21, &mut list), modes_turned_down(6));
-            assert_eq!(call(&[u32::MAX; 256], 21, &mut list), modes_turned_down(7));
-            assert_eq!(call(&[9, 0, 9, 0], 21, &mut list), modes_turned_down(8));
-            assert_eq!(call(&[9, 0, 9, 0], 0, &mut list), modes_turned_down(10));
-            assert_eq!(list, [7, 8]);
-        }
-    }
-
-    /// The largest sum of an opened ring: two equal bins become three.
-    #[test]
-    fn a_ring_of_two_bins_counts_its_lowest_twice() {
-        let mut list = [9; 2];
-        let one = ModesAnswer {
-            number: 0,
-            separators: 1,
-        };
-        assert_eq!(ring_modes(&[32_768, 32_768], 0, &mut list), one);
-        assert_eq!(list, [0, 9]);
-    }
 }

@@ -1,14 +1,17 @@
 //! A second implementation of document 01: measures of a pixel, pooling, the logarithm, the test, the modes of a line
-//! and of a ring, and the public calls built of them. It is written to be read beside the paper, clear before fast, and
-//! on purpose by other means than the engine, so that a slip in one is unlikely to be found in the other as well.
+//! and of a ring, the card, the card program's texts, and the public calls built of them. It is written to be read beside
+//! the paper, clear before fast, and on purpose by other means than the engine, so that a slip in one is unlikely to be
+//! found in the other as well.
 //!
 //! One module for each section of the paper, and one for the ring. To run its own tests: `cargo test -p reference` in
 //! `tests/`.
 
 pub mod calls;
+pub mod cards;
 pub mod lines;
 pub mod logarithm;
 pub mod measures;
 pub mod pooling;
 pub mod rings;
+pub mod swatches;
 pub mod test;

@@ -16,9 +16,10 @@ pub fn lg(x: u64) -> u64 {
     let mut y = x << (31 - whole);
     let mut lg = UNIT * u64::from(whole);
     for place in (0..ROUNDS).rev() {
-        let square = u128::from(y) * u128::from(y);
+        // Below 2^64, as y is below 2^32.
+        let square = y * y;
         let high = square >= 1 << 63;
-        y = (square >> if high { 32 } else { 31 }) as u64;
+        y = square >> if high { 32 } else { 31 };
         lg += u64::from(high) << place;
     }
     lg

@@ -65,13 +65,14 @@ impl Part {
 /// Every part of the stretch, by first bin and then by last.
 pub fn parts(counts: &[u64], rising: bool) -> Vec<Part> {
     let fitted = fit(counts, rising);
+    let means: Vec<Fraction> = fitted.iter().map(mean).collect();
     let mut parts = Vec::new();
     for first in 0..counts.len() {
         let mut count = 0;
         let mut mass = Fraction { above: 0, below: 1 };
         for last in first..counts.len() {
             count += counts[last];
-            mass = mass.plus(mean(&fitted[last]));
+            mass = mass.plus(means[last]);
             let over = denominator(&fitted[first], &fitted[last]);
             parts.push(Part {
                 count,

@@ -1,0 +1,100 @@
+//! Cards of noisy cloths: the engine against the Rust program, and beside them other programs that reduce colours.
+
+use crate::fast_cards::{self, Scratch};
+use crate::{medians, others, print, CLOSENESS};
+use cloths::random::Random;
+use cloths::swatch::Swatch;
+use cloths::yarns::{woven, yarns};
+use reference::calls::CardAnswer;
+use std::hint::black_box;
+
+/// So little that a grey yarn's pixels all stay grey.
+const NOISE: u32 = 2;
+const SIDES: [usize; 2] = [128, 256];
+const YARNS: [usize; 4] = [3, 5, 8, 12];
+/// The cloth that the other programs are given.
+const SHOWN: usize = 8;
+
+pub struct Cloth {
+    name: String,
+    swatch: Swatch,
+    yarns: usize,
+}
+
+pub fn cloths() -> Vec<Cloth> {
+    let mut cloths = Vec::new();
+    for side in SIDES {
+        for count in YARNS {
+            let mut random = Random::new(count as u64);
+            let yarns = yarns(&mut random, count);
+            cloths.push(Cloth {
+                name: format!("{side} x {side}, {count} yarns"),
+                swatch: woven(&mut random, side, side, &yarns, NOISE),
+                yarns: count,
+            });
+        }
+    }
+    cloths
+}
+
+/// Several closenesses, though only one is timed.
+pub fn wrong(cloth: &Cloth) -> Option<String> {
+    let bytes = cloth.swatch.bytes();
+    for closeness in [CLOSENESS, 7, 20] {
+        let mut labels = vec![0; cloth.swatch.pixels.len()];
+        let expected = reference::calls::card(&bytes, closeness, &mut labels);
+        let (fast, fast_labels) = fast_card(&bytes, closeness);
+        if expected.number != 0 || (&fast, &fast_labels) != (&expected, &labels) {
+            return Some(format!("Rust card of {}", cloth.name));
+        }
+        let mut engine_labels = vec![0; labels.len()];
+        let answer = engine::card(&mut bytes.clone(), closeness, &mut engine_labels);
+        if answer != expected.into() || engine_labels != labels {
+            return Some(format!("engine's card of {}", cloth.name));
+        }
+    }
+    None
+}
+
+fn fast_card(bytes: &[u8], closeness: u32) -> (CardAnswer, Vec<u8>) {
+    let mut labels = vec![0; bytes.len() / 3];
+    let answer = fast_cards::card(bytes, closeness, &mut labels, &mut Scratch::default());
+    (answer, labels)
+}
+
+pub fn time(cloths: &[Cloth]) {
+    let times: Vec<f64> = cloths.iter().map(time_card).collect();
+    for (cloth, engine) in cloths.iter().zip(times) {
+        if cloth.yarns == SHOWN {
+            let entries = fast_card(&cloth.swatch.bytes(), CLOSENESS).0.len;
+            others::time(&cloth.name, &cloth.swatch, entries, engine);
+        }
+    }
+}
+
+/// The engine's time is handed back.
+fn time_card(cloth: &Cloth) -> f64 {
+    let bytes = cloth.swatch.bytes();
+    let pixels = cloth.swatch.pixels.len();
+    let mut lent = bytes.clone();
+    let (mut first, mut second) = (vec![0; pixels], vec![0; pixels]);
+    let mut scratch = Scratch::default();
+    let times = medians(
+        || {
+            black_box(engine::card(black_box(&mut lent), CLOSENESS, &mut first));
+        },
+        || {
+            black_box(fast_cards::card(
+                black_box(&bytes),
+                CLOSENESS,
+                &mut second,
+                &mut scratch,
+            ));
+        },
+    );
+    let entries = fast_card(&bytes, CLOSENESS).0.len;
+    let [engine, fast] = [times[0], times[1]].map(|time| time / pixels as f64);
+    let each = format!("{entries} entries; of {pixels} pixels each {engine:.1} and {fast:.1}");
+    print("card", &cloth.name, times, &each);
+    times[0]
+}

@@ -1,0 +1,82 @@
+//! The stored files are those that are made, and their cards are what the reference prints.
+
+use cloths::stored::{folders, printed};
+use reference::calls::print_card;
+use std::collections::BTreeSet;
+use std::fs;
+
+#[test]
+fn files_are_as_made() {
+    let mut count = 0;
+    for folder in folders() {
+        for made in &folder.made {
+            let text = fs::read(folder.text_file(made.name)).expect(made.name);
+            let card = fs::read(folder.card_file(made.name)).expect(made.name);
+            assert!(text == made.text, "the text of {}", made.name);
+            assert!(card == printed(&text), "the card of {}", made.name);
+            count += 1;
+        }
+    }
+    println!("{count} texts and cards");
+}
+
+#[test]
+fn there_are_no_other_files() {
+    for folder in folders() {
+        let files = folder.files().expect("the folder can be read");
+        let found: BTreeSet<String> = files.into_iter().collect();
+        let mut expected = BTreeSet::from(["README.md".to_string()]);
+        for made in &folder.made {
+            expected.insert(format!("{}.{}", made.name, folder.ending));
+            expected.insert(format!("{}.card", made.name));
+        }
+        assert_eq!(found, expected);
+    }
+}
+
+/// The numbers are listed with the texts, by reading them, not by running anything.
+#[test]
+fn numbers_are_as_listed() {
+    for folder in folders() {
+        for made in &folder.made {
+            assert_eq!(print_card(&made.text).number, made.number, "{}", made.name);
+        }
+    }
+}
+
+#[test]
+fn names_differ_and_every_ground_is_met() {
+    for folder in folders() {
+        let names: BTreeSet<&str> = folder.made.iter().map(|made| made.name).collect();
+        assert_eq!(names.len(), folder.made.len());
+    }
+    let [swatches, examples] = folders();
+    let numbers: BTreeSet<u32> = swatches.made.iter().map(|made| made.number).collect();
+    assert_eq!(numbers, BTreeSet::from([0, 1, 2, 3, 11]));
+    assert!(examples.made.iter().all(|made| made.number == 0));
+}
+
+#[test]
+fn the_limit_is_met_exactly() {
+    let [swatches, _] = folders();
+    let card = |name: &str| {
+        let made = swatches.made.iter().find(|made| made.name == name);
+        String::from_utf8(printed(&made.expect(name).text)).expect("a card is text")
+    };
+    assert!(card("254-entries").starts_with("   254  2540     0\n"));
+    assert!(card("255-entries").starts_with("   255  2550     0\n"));
+    assert_eq!(card("256-entries"), "    11\n");
+    assert_eq!(card("255-entries").lines().count(), 256);
+}
+
+#[test]
+fn the_longest_swatch_and_one_byte_more() {
+    let [swatches, _] = folders();
+    let len = |name: &str| {
+        let made = swatches.made.iter().find(|made| made.name == name);
+        made.expect(name).text.len()
+    };
+    assert_eq!(len("16384-pixels"), 13 * 16_385);
+    assert_eq!(len("16384-pixels-one-byte-too-long"), 13 * 16_385 + 1);
+    assert_eq!(len("16384-pixels-one-byte-too-short"), 13 * 16_385 - 1);
+}

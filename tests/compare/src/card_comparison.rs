@@ -1,0 +1,111 @@
+//! The two card calls, engine and reference side by side. Swatches are long, so that of a difference only the first
+//! entry, label or byte is shown.
+
+use crate::card_groups::CardCase;
+use crate::comparison::{Difference, Tally};
+use engine::{Card, Printed};
+
+/// Places in front of and behind the labels that were lent: they are not the engine's to write.
+const AROUND: usize = 5;
+
+pub fn card(case: &CardCase, tally: &mut Tally) -> Result<(), Difference> {
+    let CardCase {
+        bytes,
+        closeness,
+        places,
+    } = case;
+    let mut lent = bytes.clone();
+    let mut list = unwritten(places + 2 * AROUND);
+    let mut expected_list = list.clone();
+    let labels = AROUND..AROUND + places;
+    let answer = engine::card(&mut lent, *closeness, &mut list[labels.clone()]);
+    let expected = reference::calls::card(bytes, *closeness, &mut expected_list[labels]);
+    let expected = Card::from(expected);
+    tally.cards += 1;
+    tally.count(expected.number);
+    tally.several += u64::from(expected.len > 1);
+    tally.most = tally.most.max(expected.len);
+    if (expected, &expected_list, bytes) == (answer, &list, &lent) {
+        return Ok(());
+    }
+    let input = format!(
+        "card {} of the group, closeness {closeness}, {places} labels, {} bytes {}",
+        tally.cards,
+        bytes.len(),
+        shown_pixels(bytes)
+    );
+    let entry = (0..expected.entries.len()).find(|&e| expected.entries[e] != answer.entries[e]);
+    let label = (0..list.len()).find(|&place| expected_list[place] != list[place]);
+    let byte = (0..lent.len()).find(|&place| bytes[place] != lent[place]);
+    let told = |card: &Card, list: &[u8], bytes: &[u8]| {
+        let mut told = format!("number {}, {} entries", card.number, card.len);
+        if let Some(e) = entry {
+            told += &format!("; entry {e}: {:?}", card.entries[e]);
+        }
+        if let Some(place) = label {
+            let pixel = place as i64 - AROUND as i64;
+            told += &format!("; label of pixel {pixel}: {}", list[place]);
+        }
+        if let Some(place) = byte {
+            told += &format!("; pixel byte {place}: {}", bytes[place]);
+        }
+        told
+    };
+    Err(Difference {
+        input,
+        reference: told(&expected, &expected_list, bytes),
+        engine: told(&answer, &list, &lent),
+    })
+}
+
+pub fn text(text: &[u8], tally: &mut Tally) -> Result<(), Difference> {
+    let mut lent = text.to_vec();
+    let answer = engine::print_card(&mut lent);
+    let expected = Printed::from(reference::calls::print_card(text));
+    tally.texts += 1;
+    tally.count(expected.number);
+    if let Some(count) = tally.grounds.get_mut(expected.number as usize) {
+        *count += 1;
+    }
+    if (expected, text) == (answer, lent.as_slice()) {
+        return Ok(());
+    }
+    let told = |printed: &Printed, text: &[u8]| {
+        let end = printed.bytes.len().min(printed.len as usize);
+        let past = printed.bytes[end..].iter().all(|&byte| byte == 0);
+        format!(
+            "number {}, {} bytes {}, {}zero past them, text {}",
+            printed.number,
+            printed.len,
+            shown(&printed.bytes[..end]),
+            if past { "" } else { "not " },
+            shown(text)
+        )
+    };
+    Err(Difference {
+        input: format!("text {} of the group, {} bytes", tally.texts, text.len()),
+        reference: told(&expected, text),
+        engine: told(&answer, &lent),
+    })
+}
+
+/// Each place another number than the ones next to it, so that a place that is written shows, or nearly always.
+fn unwritten(places: usize) -> Vec<u8> {
+    (0..places).map(|place| (251 - place % 241) as u8).collect()
+}
+
+/// The start of a text.
+pub fn shown(text: &[u8]) -> String {
+    const MOST: usize = 400;
+    let start = text[..text.len().min(MOST)].escape_ascii();
+    let rest = if text.len() > MOST { " .." } else { "" };
+    format!("\"{start}\"{rest}")
+}
+
+/// The first pixels.
+fn shown_pixels(bytes: &[u8]) -> String {
+    const MOST: usize = 40;
+    let first: Vec<&[u8]> = bytes.chunks(3).take(MOST).collect();
+    let rest = if bytes.len() > 3 * MOST { " .." } else { "" };
+    format!("{first:?}{rest}")
+}

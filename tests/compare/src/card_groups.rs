@@ -1,0 +1,238 @@
+//! The named groups of swatches for the card call, each of which is one test.
+
+use crate::card_shapes::{self, CardShape, SHAPES};
+use cloths::full_cards;
+use cloths::random::Random;
+use reference::calls::{MOST_CLOSENESS, MOST_PIXELS};
+use reference::cards::Pixel;
+
+/// Pixel bytes, the closeness, and how many labels are lent.
+pub struct CardCase {
+    pub bytes: Vec<u8>,
+    pub closeness: u32,
+    pub places: usize,
+}
+
+/// Where a group's swatches come from.
+pub enum CardSource {
+    /// A list, the same length in every run.
+    List(fn(&mut Random) -> Vec<CardCase>),
+    /// Drawn of one shape with at most this many pixels, so many thousandths of the count.
+    Draw(CardShape, usize, usize),
+}
+
+use CardSource::{Draw, List};
+
+pub const CARDS: [(&str, CardSource); 20] = [
+    ("samples of the paper", List(samples)),
+    ("grounds", List(grounds)),
+    ("one pixel", List(one_pixel)),
+    ("two pixels", List(two_pixels)),
+    ("all equal", List(all_equal)),
+    ("every closeness 0 to 22", List(every_closeness)),
+    ("255 and 256 entries", List(limit)),
+    ("around 255 entries", List(around_the_limit)),
+    ("up to 65,536 pixels", List(large)),
+    ("few pixels", Draw(any, 40, 5)),
+    ("noise", Draw(card_shapes::noise, 2000, 3)),
+    ("yarns with noise", Draw(card_shapes::clusters, 4000, 12)),
+    ("cloths", Draw(card_shapes::cloth, 4096, 6)),
+    ("greys only", Draw(card_shapes::greys, 3000, 6)),
+    ("colours only", Draw(card_shapes::colours, 3000, 6)),
+    ("tints", Draw(card_shapes::tints, 3000, 4)),
+    (
+        "hues over the seam",
+        Draw(card_shapes::over_the_seam, 2000, 4),
+    ),
+    ("gradients", Draw(card_shapes::gradients, 3000, 4)),
+    ("nearly grey", Draw(card_shapes::nearly_grey, 2000, 4)),
+    ("few levels", Draw(card_shapes::few_levels, 4000, 2)),
+];
+
+impl CardSource {
+    /// Hands each case on, until one is refused.
+    pub fn each<E>(
+        &self,
+        random: &mut Random,
+        count: usize,
+        mut visit: impl FnMut(&CardCase) -> Result<(), E>,
+    ) -> Result<(), E> {
+        match self {
+            List(list) => list(random).iter().try_for_each(visit),
+            Draw(shape, most, share) => {
+                (0..count * share / 1000).try_for_each(|_| visit(&draw(random, *shape, *most)))
+            }
+        }
+    }
+}
+
+/// Small swatches more often than large ones, low closenesses more often than high ones; now and then one that is
+/// turned down.
+fn draw(random: &mut Random, shape: CardShape, most: usize) -> CardCase {
+    let most = (most >> random.below(6)).max(1);
+    let count = 1 + random.below(most);
+    let pixels = shape(random, count);
+    let top = if random.coin() { 3 } else { MOST_CLOSENESS };
+    let mut case = fitting(&pixels, random.within(0, top));
+    match random.below(100) {
+        0 => case.closeness = random.within(MOST_CLOSENESS + 1, MOST_CLOSENESS + 3),
+        1 => case.places = random.below(2 * case.places + 2),
+        2 => case.bytes.truncate(random.below(case.bytes.len())),
+        _ => {}
+    }
+    case
+}
+
+fn any(random: &mut Random, pixels: usize) -> Vec<Pixel> {
+    SHAPES[random.below(SHAPES.len())](random, pixels)
+}
+
+fn fitting(pixels: &[Pixel], closeness: u32) -> CardCase {
+    CardCase {
+        bytes: pixels.concat(),
+        closeness,
+        places: pixels.len(),
+    }
+}
+
+fn samples(_: &mut Random) -> Vec<CardCase> {
+    let swatches: [&[Pixel]; 8] = [
+        &[[0, 0, 0], [255, 0, 0]],
+        &[[255, 0, 0], [0, 0, 0]],
+        &[[13, 9, 0]],
+        &[[13, 10, 0]],
+        &[[13, 9, 0], [13, 10, 0]],
+        &[[0, 255, 0], [0, 0, 255], [255, 0, 0]],
+        &[[100, 0, 200], [100, 200, 0]],
+        &[[0, 0, 0], [255, 255, 255]],
+    ];
+    let mut cases = Vec::new();
+    for closeness in [0, MOST_CLOSENESS, MOST_CLOSENESS + 1] {
+        for swatch in swatches {
+            for times in [1, 20] {
+                cases.push(fitting(&swatch.repeat(times), closeness));
+            }
+        }
+    }
+    cases
+}
+
+/// Each of the grounds 4, 5, 8 and 9 with and without each of the others.
+fn grounds(_: &mut Random) -> Vec<CardCase> {
+    let most = 3 * MOST_PIXELS as usize;
+    let mut cases = Vec::new();
+    for bytes in [
+        0,
+        1,
+        2,
+        3,
+        4,
+        5,
+        6,
+        300,
+        most - 1,
+        most,
+        most + 1,
+        most + 2,
+        most + 3,
+        2 * most,
+    ] {
+        for closeness in [0, MOST_CLOSENESS, MOST_CLOSENESS + 1, 1 << 16, u32::MAX] {
+            let pixels = bytes / 3;
+            for places in [0, pixels.saturating_sub(1), pixels, pixels + 1, bytes] {
+                cases.push(CardCase {
+                    bytes: vec![closeness as u8; bytes],
+                    closeness,
+                    places,
+                });
+            }
+        }
+    }
+    cases
+}
+
+fn one_pixel(random: &mut Random) -> Vec<CardCase> {
+    let corners = (0..8).map(|code| [4, 2, 1].map(|bit| if code & bit > 0 { 255 } else { 0 }));
+    let mut pixels: Vec<Pixel> = corners.collect();
+    pixels.extend(card_shapes::noise(random, 200));
+    pixels.extend(card_shapes::nearly_grey(random, 100));
+    let closeness = |place| place as u32 % (MOST_CLOSENESS + 1);
+    (pixels.iter().enumerate())
+        .map(|(place, &pixel)| fitting(&[pixel], closeness(place)))
+        .collect()
+}
+
+fn two_pixels(random: &mut Random) -> Vec<CardCase> {
+    (0..300)
+        .map(|index| fitting(&any(random, 2), index % (MOST_CLOSENESS + 1)))
+        .collect()
+}
+
+fn all_equal(random: &mut Random) -> Vec<CardCase> {
+    let counts = (1..=100).chain([1000, 16_383, 16_384, 65_535, 65_536]);
+    counts
+        .map(|pixels| {
+            let shape = [card_shapes::all_equal, same_grey][pixels % 2];
+            fitting(&shape(random, pixels), pixels as u32 % (MOST_CLOSENESS + 1))
+        })
+        .collect()
+}
+
+fn same_grey(random: &mut Random, pixels: usize) -> Vec<Pixel> {
+    vec![card_shapes::greys(random, 1)[0]; pixels]
+}
+
+fn every_closeness(random: &mut Random) -> Vec<CardCase> {
+    (0..22)
+        .flat_map(|index| {
+            let count = 100 + random.below(900);
+            let pixels = SHAPES[index % SHAPES.len()](random, count);
+            (0..=MOST_CLOSENESS + 2).map(move |closeness| fitting(&pixels, closeness))
+        })
+        .collect()
+}
+
+/// Enough pixels for each entry that none joins at this closeness: 255 are served, 256 are not.
+fn limit(_: &mut Random) -> Vec<CardCase> {
+    let mut cases = Vec::new();
+    for (each, closeness) in [(10, 0), (64, 0), (64, 10), (250, MOST_CLOSENESS)] {
+        for entries in [254, 255, 256, 257] {
+            cases.push(fitting(&full_cards::pixels(entries, each), closeness));
+        }
+    }
+    cases
+}
+
+/// As many pixels as it takes for nothing to join, a few more or less.
+fn around_the_limit(random: &mut Random) -> Vec<CardCase> {
+    (0..60)
+        .map(|_| {
+            let entries = random.within(240, full_cards::MOST as u32) as usize;
+            let closeness = random.within(0, MOST_CLOSENESS);
+            let each = 7 + random.below(8) + 2 * closeness as usize;
+            let mut pixels = full_cards::pixels(entries, each);
+            for _ in 0..random.below(20) {
+                pixels.swap_remove(random.below(pixels.len()));
+            }
+            fitting(&pixels, closeness)
+        })
+        .collect()
+}
+
+fn large(random: &mut Random) -> Vec<CardCase> {
+    (0..44)
+        .map(|index| {
+            let count = match index / SHAPES.len() {
+                0 => 65_536,
+                1 => 65_535,
+                _ => random.within(16_384, 65_536) as usize,
+            };
+            let closeness = if random.coin() {
+                0
+            } else {
+                random.within(0, MOST_CLOSENESS)
+            };
+            fitting(&SHAPES[index % SHAPES.len()](random, count), closeness)
+        })
+        .collect()
+}

@@ -1,0 +1,196 @@
+//! The card. Every pixel gets a key: its kind and the numbers of its hue, saturation and intensity modes, found level by
+//! level. The keys that occur, sorted, are the entries.
+
+use crate::measures::{measures, Measures};
+use crate::{lines, rings};
+use std::collections::{BTreeMap, BTreeSet};
+
+/// Red, green, blue.
+pub type Pixel = [u8; 3];
+
+#[derive(Clone, Copy, Debug, Default, PartialEq, Eq)]
+pub struct Entry {
+    pub kind: u8,
+    pub hue: u8,
+    pub saturation: u8,
+    pub intensity: u8,
+    pub red: u8,
+    pub green: u8,
+    pub blue: u8,
+    pub count: u32,
+}
+
+/// The card as defined, without a limit: its entries, and for each pixel the number of its entry.
+#[derive(Clone, Debug, PartialEq, Eq)]
+pub struct Card {
+    pub entries: Vec<Entry>,
+    pub labels: Vec<usize>,
+}
+
+pub const GREY: usize = 0;
+pub const COLOUR: usize = 1;
+
+/// Kind, hue mode, saturation mode, intensity mode. In the order of the entries: greys come first, and among them only
+/// the intensity differs.
+type Key = [usize; 4];
+
+/// A measure by which pixels are divided.
+struct Level {
+    /// Its place in a key.
+    place: usize,
+    bins: usize,
+    bin: fn(&Measures) -> u8,
+    /// Where the modes of a histogram start, by number.
+    starts: fn(&[u64], u32) -> Vec<usize>,
+}
+
+const HUE: Level = Level {
+    place: 1,
+    bins: 60,
+    bin: |measures| measures.hue,
+    starts: rings::separators,
+};
+const SATURATION: Level = Level {
+    place: 2,
+    bins: 42,
+    bin: |measures| measures.saturation,
+    starts: line_starts,
+};
+const INTENSITY: Level = Level {
+    place: 3,
+    bins: 52,
+    bin: |measures| measures.intensity,
+    starts: line_starts,
+};
+
+fn line_starts(counts: &[u64], closeness: u32) -> Vec<usize> {
+    let modes = lines::modes(counts, closeness);
+    modes.iter().map(|mode| mode.start).collect()
+}
+
+pub fn card(pixels: &[Pixel], closeness: u32) -> Card {
+    let keys = keys(pixels, closeness);
+    let all: Vec<Key> = BTreeSet::from_iter(&keys).into_iter().copied().collect();
+    let number = |key: &Key| all.binary_search(key).expect("it is one of them");
+    let labels: Vec<usize> = keys.iter().map(number).collect();
+    let mut held: Vec<Vec<Pixel>> = vec![Vec::new(); all.len()];
+    for (&label, &pixel) in labels.iter().zip(pixels) {
+        held[label].push(pixel);
+    }
+    let entries = all.iter().zip(&held).map(|(key, held)| entry(key, held));
+    Card {
+        entries: entries.collect(),
+        labels,
+    }
+}
+
+/// The key of each pixel: greys divided by intensity; colours by hue, each of those sets by saturation, each of those
+/// by intensity.
+fn keys(pixels: &[Pixel], closeness: u32) -> Vec<Key> {
+    let measured: Vec<Measures> = pixels.iter().map(|&[r, g, b]| measures(r, g, b)).collect();
+    let kind = |measures: &Measures| if measures.grey { GREY } else { COLOUR };
+    let mut keys: Vec<Key> = measured.iter().map(|m| [kind(m), 0, 0, 0]).collect();
+    for (level, of_greys) in [(HUE, false), (SATURATION, false), (INTENSITY, true)] {
+        for (key, members) in sets(&keys) {
+            if key[0] == COLOUR || of_greys {
+                divide(&level, closeness, &measured, &members, &mut keys);
+            }
+        }
+    }
+    keys
+}
+
+/// The pixels of each key, by their places.
+fn sets(keys: &[Key]) -> BTreeMap<Key, Vec<usize>> {
+    let mut sets: BTreeMap<Key, Vec<usize>> = BTreeMap::new();
+    for (place, &key) in keys.iter().enumerate() {
+        sets.entry(key).or_default().push(place);
+    }
+    sets
+}
+
+/// Puts the number of its mode into the key of each member, from the histogram of the members alone.
+fn divide(
+    level: &Level,
+    closeness: u32,
+    measured: &[Measures],
+    members: &[usize],
+    keys: &mut [Key],
+) {
+    let bin = |place: usize| usize::from((level.bin)(&measured[place]));
+    let mut counts = vec![0; level.bins];
+    for &place in members {
+        counts[bin(place)] += 1;
+    }
+    let starts = (level.starts)(&counts, closeness);
+    let mut met = vec![false; starts.len()];
+    for &place in members {
+        let mode = mode_of(bin(place), &starts, level.bins);
+        met[mode] = true;
+        keys[place][level.place] = mode;
+    }
+    // So that the keys that occur are all the entries there are.
+    assert!(met.iter().all(|&met| met), "a mode without a pixel");
+}
+
+/// The mode that a bin lies in: back from the bin, on a ring past bin 0 too, to the first start that is met.
+fn mode_of(bin: usize, starts: &[usize], bins: usize) -> usize {
+    (0..bins)
+        .map(|back| (bin + bins - back) % bins)
+        .find_map(|bin| starts.iter().position(|&start| start == bin))
+        .expect("there is a mode")
+}
+
+fn entry(key: &Key, pixels: &[Pixel]) -> Entry {
+    let [kind, hue, saturation, intensity] = key.map(|number| number as u8);
+    let [red, green, blue] = [0, 1, 2].map(|channel| {
+        let values: Vec<u8> = pixels.iter().map(|pixel| pixel[channel]).collect();
+        mean(&values)
+    });
+    Entry {
+        kind,
+        hue,
+        saturation,
+        intensity,
+        red,
+        green,
+        blue,
+        count: pixels.len() as u32,
+    }
+}
+
+/// Halves up.
+fn mean(values: &[u8]) -> u8 {
+    let count = values.len() as u64;
+    let sum: u64 = values.iter().map(|&value| u64::from(value)).sum();
+    let (whole, rest) = (sum / count, sum % count);
+    (whole + u64::from(2 * rest >= count)) as u8
+}
+
+#[cfg(test)]
+mod tests {
+    use super::*;
+
+    #[test]
+    fn means_round_halves_up() {
+        assert_eq!(mean(&[0, 1]), 1);
+        assert_eq!(mean(&[0, 0, 1]), 0);
+        assert_eq!(mean(&[0, 1, 1]), 1);
+        assert_eq!(mean(&[0, 0, 0, 2]), 1);
+        assert_eq!(mean(&[0, 0, 0, 0, 2]), 0);
+        assert_eq!(mean(&[254, 255]), 255);
+        assert_eq!(mean(&[7]), 7);
+        assert_eq!(mean(&vec![255; 65_536]), 255);
+    }
+
+    #[test]
+    fn a_bin_lies_in_the_mode_that_starts_last_before_it() {
+        let line = [0, 3, 7];
+        let modes: Vec<usize> = (0..10).map(|bin| mode_of(bin, &line, 10)).collect();
+        assert_eq!(modes, [0, 0, 0, 1, 1, 1, 1, 2, 2, 2]);
+        // A ring opened at bin 7, where mode 0 starts and runs over the seam.
+        let ring = [7, 2, 4];
+        let modes: Vec<usize> = (0..10).map(|bin| mode_of(bin, &ring, 10)).collect();
+        assert_eq!(modes, [0, 0, 1, 1, 2, 2, 2, 0, 0, 0]);
+    }
+}

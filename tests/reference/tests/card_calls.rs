@@ -1,0 +1,124 @@
+//! The grounds and the answers of the two card calls.
+
+use reference::calls::*;
+use reference::cards::Entry;
+
+const BLACK_AND_RED: [u8; 6] = [0, 0, 0, 255, 0, 0];
+
+fn turned_down(number: u32) -> CardAnswer {
+    CardAnswer {
+        number,
+        len: 0,
+        entries: [Entry::default(); MOST_ENTRIES],
+    }
+}
+
+/// The number, with a label for each whole pixel.
+fn number(bytes: &[u8], closeness: u32) -> u32 {
+    card(bytes, closeness, &mut vec![0; bytes.len() / 3]).number
+}
+
+#[test]
+fn black_beside_red() {
+    let mut labels = [9; 2];
+    let answer = card(&BLACK_AND_RED, 0, &mut labels);
+    let grey = Entry {
+        count: 1,
+        ..Entry::default()
+    };
+    let colour = Entry {
+        kind: 1,
+        red: 255,
+        ..grey
+    };
+    assert_eq!((answer.number, answer.len), (0, 2));
+    assert_eq!(answer.entries[..2], [grey, colour]);
+    assert!(answer.entries[2..]
+        .iter()
+        .all(|entry| *entry == Entry::default()));
+    assert_eq!(labels, [0, 1]);
+}
+
+#[test]
+fn bytes_come_in_threes() {
+    for (bytes, expected) in [(0, 4), (1, 4), (2, 4), (3, 0), (4, 4), (5, 4), (6, 0)] {
+        assert_eq!(number(&vec![7; bytes], 0), expected);
+    }
+}
+
+#[test]
+fn pixels_are_65_536_at_most() {
+    for (bytes, expected) in [
+        (3 * 65_536, 0),
+        (3 * 65_536 + 1, 4),
+        (3 * 65_536 + 3, 5),
+        (3 * 70_000, 5),
+    ] {
+        assert_eq!(number(&vec![7; bytes], 0), expected);
+    }
+}
+
+#[test]
+fn closeness_is_20_at_most() {
+    for (closeness, expected) in [(0, 0), (20, 0), (21, 8), (u32::MAX, 8)] {
+        assert_eq!(number(&BLACK_AND_RED, closeness), expected);
+    }
+}
+
+#[test]
+fn labels_are_as_many_as_pixels() {
+    for (places, expected) in [(0, 9), (1, 9), (2, 0), (3, 9), (6, 9)] {
+        let answer = card(&BLACK_AND_RED, 0, &mut vec![0; places]);
+        assert_eq!(answer.number, expected);
+    }
+}
+
+#[test]
+fn the_first_ground_counts() {
+    let mut labels = [7, 8, 9];
+    assert_eq!(card(&[], 21, &mut labels), turned_down(4));
+    assert_eq!(card(&[1; 4], 21, &mut labels), turned_down(4));
+    let many = vec![1; 3 * 65_537];
+    assert_eq!(card(&many[1..], 21, &mut labels), turned_down(4));
+    assert_eq!(card(&many, 21, &mut labels), turned_down(5));
+    assert_eq!(card(&BLACK_AND_RED, 21, &mut labels), turned_down(8));
+    assert_eq!(card(&BLACK_AND_RED, 20, &mut labels), turned_down(9));
+    assert_eq!(labels, [7, 8, 9]);
+}
+
+fn printed(text: &[u8]) -> (u32, String) {
+    let answer = print_card(text);
+    let len = answer.len as usize;
+    assert!(answer.bytes[len..].iter().all(|&byte| byte == 0));
+    let printed = String::from_utf8_lossy(&answer.bytes[..len]);
+    (answer.number, printed.into_owned())
+}
+
+#[test]
+fn black_beside_red_is_printed_as_in_the_paper() {
+    let text = b"     2     1\n   0   0   0\n 255   0   0\n";
+    let expected = "     2     2     0\n\
+        \x20    0     0     0     0     0     0     0     1\n\
+        \x20    1     0     0     0   255     0     0     1\n";
+    assert_eq!(printed(text), (0, expected.to_string()));
+}
+
+#[test]
+fn a_text_turned_down_prints_its_number() {
+    let cases: [(&[u8], u32); 4] = [
+        (b"", 1),
+        (b"     2     1", 1),
+        (b"     0     1\n", 2),
+        (b"     2     1\n   0   0   0\n", 3),
+    ];
+    for (text, number) in cases {
+        assert_eq!(printed(text), (number, format!("{number:6}\n")));
+    }
+}
+
+#[test]
+fn room_is_for_the_most_entries() {
+    let line = |fields: usize| 6 * fields + 1;
+    assert_eq!(MOST_PRINTED, line(3) + 255 * line(8));
+    assert_eq!(MOST_PRINTED, 12_514);
+}
