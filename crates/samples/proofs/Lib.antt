@@ -1,2 +1,3 @@
 mod Nearer
 mod Tables
+pub mod Example
