@@ -1,0 +1,146 @@
+/*
+ * Kistrovu: the card of a scanned cloth.
+ *
+ * A card is the palette of a cloth: the greys and colours found in it, how many pixels each accounts for, and which
+ * pixel belongs where. Link libkistrovu.a (`rt staticlib kistrovu` makes it). The promises are proved of the source;
+ * they are stated in crates/kistrovu/src/lib.rt. This header is written by hand and is not covered by the proof.
+ *
+ * Every call is served or turned down. Its answer has a number: 0 when it is served, else the ground on which it is
+ * turned down (enum kistrovu_ground). A turned-down call hands back zero in every other figure and leaves every lent
+ * buffer as it was. A call tests the grounds that concern it in the order of their numbers, and the first that holds
+ * is its number. No call asks anything of its caller but what C cannot check:
+ *
+ *   - a pointer and a length name that many readable places, and writable ones where the pointer is not const;
+ *     a pointer is not null, also where the length is 0;
+ *   - a buffer that is written does not overlap another argument;
+ *   - a bool is 0 or 1.
+ *
+ * No call uses the heap, keeps state or touches anything but its arguments, so calls may run on any threads at once.
+ * Stack: kistrovu_card takes 510 KB, kistrovu_print_card 591 KB, whatever the image; every other call takes less
+ * than 32 KB. Give a thread that makes cards 1 MB.
+ */
+#ifndef KISTROVU_H
+#define KISTROVU_H
+
+#include <stdbool.h>
+#include <stddef.h>
+#include <stdint.h>
+
+#ifdef __cplusplus
+extern "C" {
+#endif
+
+/* The grounds for turning a call down. Numbers are never given a new meaning. */
+enum kistrovu_ground {
+    KISTROVU_SERVED = 0,
+    KISTROVU_HEADER = 1,       /* the header line of a swatch is not two fields */
+    KISTROVU_SIZE = 2,         /* its width x height is 0 or above 16,384 */
+    KISTROVU_LINES = 3,        /* a pixel line is not three fields of 0 to 255, or lines are missing or left over */
+    KISTROVU_BYTES = 4,        /* the pixel bytes are none or not a multiple of 3 */
+    KISTROVU_PIXELS = 5,       /* there are more than 65,536 pixels */
+    KISTROVU_BINS = 6,         /* a histogram has fewer than 2 or more than 256 bins */
+    KISTROVU_SUM = 7,          /* its counts sum to more than 65,536 */
+    KISTROVU_CLOSENESS = 8,    /* the closeness is above 20 */
+    KISTROVU_LABELS = 9,       /* the label buffer's length is not the pixel count */
+    KISTROVU_SEPARATORS = 10,  /* the separator list has fewer places than the histogram has bins */
+    KISTROVU_ENTRIES = 11      /* the card as defined has more than 255 entries */
+};
+
+#define KISTROVU_MOST_BINS 256
+#define KISTROVU_MOST_ENTRIES 255
+#define KISTROVU_MOST_PRINTED 12514
+
+/* ---- the measures of one pixel; no ground concerns it */
+
+struct kistrovu_measures {
+    uint8_t intensity;  /* 0 to 51 */
+    uint8_t saturation; /* 0 to 41 */
+    uint8_t hue;        /* 0 to 59; 0 for a grey */
+    bool grey;
+};
+
+struct kistrovu_measures_answer {
+    uint32_t number;
+    struct kistrovu_measures measures;
+};
+
+struct kistrovu_measures_answer kistrovu_measures(uint8_t red, uint8_t green, uint8_t blue);
+
+/* ---- the monotone fit of a histogram. Grounds 6, 7
+ * Bin i lies in a block of sum sums[i] and length lengths[i]; places past the last bin are zero. */
+
+struct kistrovu_fit_answer {
+    uint32_t number;
+    uint32_t sums[KISTROVU_MOST_BINS];
+    uint32_t lengths[KISTROVU_MOST_BINS];
+};
+
+struct kistrovu_fit_answer kistrovu_fit(const uint32_t *histogram, size_t bins, bool rising);
+
+/* ---- the verdict on a histogram: its cost in units of 1/16,777,216 of a bit, and whether it is rejected. Grounds 6, 7, 8 */
+
+struct kistrovu_verdict {
+    int64_t cost;
+    bool rejected;
+};
+
+struct kistrovu_verdict_answer {
+    uint32_t number;
+    struct kistrovu_verdict verdict;
+};
+
+struct kistrovu_verdict_answer kistrovu_verdict(const uint32_t *histogram, size_t bins, bool rising, uint32_t closeness);
+
+/* ---- the modes of a line of bins, and of a ring. Grounds 6, 7, 8, 10
+ * The separators stand in the first places of the list, and the answer says how many there are; the other places stay
+ * as they were. A line's separators rise and end with its last bin. Of a ring's the order is open. */
+
+struct kistrovu_modes_answer {
+    uint32_t number;
+    uint32_t separators;
+};
+
+struct kistrovu_modes_answer kistrovu_line_modes(const uint32_t *histogram, size_t bins, uint32_t closeness,
+                                                 uint32_t *separators, size_t places);
+struct kistrovu_modes_answer kistrovu_ring_modes(const uint32_t *histogram, size_t bins, uint32_t closeness,
+                                                 uint32_t *separators, size_t places);
+
+/* ---- the card of an image. Grounds 4, 5, 8, 9, 11
+ * An image is R, G, B for each pixel, three bytes. Each pixel's label is the number of its entry, one byte. The first
+ * len places of entries hold the card; the rest are zero. */
+
+struct kistrovu_entry {
+    uint8_t kind; /* 0 grey, 1 colour */
+    uint8_t hue;  /* the numbers of its modes; hue and saturation are 0 for a grey */
+    uint8_t saturation;
+    uint8_t intensity;
+    uint8_t red; /* the mean of its pixels, halves up */
+    uint8_t green;
+    uint8_t blue;
+    uint32_t count;
+};
+
+struct kistrovu_card {
+    uint32_t number;
+    uint32_t len;
+    struct kistrovu_entry entries[KISTROVU_MOST_ENTRIES];
+};
+
+struct kistrovu_card kistrovu_card(const uint8_t *pixels, size_t bytes, uint32_t closeness, uint8_t *labels, size_t places);
+
+/* ---- what the card program prints for the text of a swatch, at closeness 0. Grounds 1, 2, 3, 11
+ * The first len places of bytes hold the text of the card, or the one line with the number; the rest are zero. */
+
+struct kistrovu_printed {
+    uint32_t number;
+    uint32_t len;
+    uint8_t bytes[KISTROVU_MOST_PRINTED];
+};
+
+struct kistrovu_printed kistrovu_print_card(const uint8_t *text, size_t bytes);
+
+#ifdef __cplusplus
+}
+#endif
+
+#endif
