@@ -25,7 +25,7 @@ use Rattle.kistrovu.proofs.printing.print_pixels.Statement.{statement}
 use Rattle.kistrovu.proofs.printing.print_pixels.Tie as tie
 
 make-card-requires : tie.Need-make-card-requires
-unfolding mostPixels mostSwatchPixels
+unfolding mostPixels mostSwatchPixels mostCloseness
 make-card-requires c κs =
     let p = c .before .before .before .before .pre in
     (p .0, omega (arith, p .1), omega arith)
