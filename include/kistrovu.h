@@ -30,6 +30,16 @@
 extern "C" {
 #endif
 
+/* ---- the version of this header and, from the call, of the library: a program whose two differ was linked to another
+ * release. Major: a declaration, a number or a figure's meaning changed. Minor: something was added. */
+
+#define KISTROVU_VERSION_MAJOR 1
+#define KISTROVU_VERSION_MINOR 0
+#define KISTROVU_VERSION_PATCH 0
+#define KISTROVU_VERSION (10000 * KISTROVU_VERSION_MAJOR + 100 * KISTROVU_VERSION_MINOR + KISTROVU_VERSION_PATCH)
+
+uint32_t kistrovu_version(void);
+
 /* The grounds for turning a call down. Numbers are never given a new meaning. */
 enum kistrovu_ground {
     KISTROVU_SERVED = 0,

@@ -17,6 +17,7 @@ ghost use Rattle.palette.specs.Sound.{SoundCard};
 ghost use Rattle.swatch.specs.Input.{bytesOf};
 ghost use Rattle.kistrovu.specs.Grounds.{programCloseness};
 ghost use Rattle.kistrovu.specs.Answers.{
+  libraryVersion,
   measuresAnswer,
   fitAnswer,
   verdictAnswer,
@@ -31,6 +32,9 @@ ghost use Rattle.kistrovu.specs.Facts.{IfServed, RingList};
 
 mod grounds;
 mod printing;
+
+// 10,000 times the major number, plus 100 times the minor one, plus the patch. The file VERSION is its source: tools/version writes it here.
+const VERSION: u32 = 10000;
 
 // The answers of the public calls. Each has the call's number: 0 when it is served, else the ground on which it is turned down,
 // with zero in every other figure.
@@ -81,6 +85,14 @@ pub struct Printed {
 pub struct Said {
     pub number: u32,
     pub len: u32,
+}
+
+// Which version the library is. No ground concerns it.
+#[no_mangle]
+pub extern "C" fn kistrovu_version() -> u32
+    ensures { λ r. ⌜ r ≡ libraryVersion ⌝ }
+{
+    VERSION
 }
 
 // The measures of one pixel. No ground concerns it.
