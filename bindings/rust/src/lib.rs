@@ -1,0 +1,81 @@
+//! Kistrovu makes the *card* of a scanned cloth: the greys and colours found in it, how many pixels each accounts for,
+//! and which pixel belongs where. This crate calls the engine through its static library, and asks nothing of the
+//! caller: a call is served, or turned down with a [`Ground`].
+//!
+//! Black beside red, two pixels of three bytes each, at closeness 0:
+//!
+//! ```
+//! # use kistrovu::{card, Ground, Kind};
+//! let card = card(&[0, 0, 0, 255, 0, 0], 0)?;
+//!
+//! let [black, red] = &card.entries[..] else { panic!("two entries") };
+//! assert_eq!((black.kind, black.count), (Kind::Grey, 1));
+//! assert_eq!((red.kind, red.count), (Kind::Colour, 1));
+//! assert_eq!([red.red, red.green, red.blue], [255, 0, 0]);
+//! assert_eq!(card.labels, [0, 1]);
+//! # Ok::<(), Ground>(())
+//! ```
+//!
+//! # The calls
+//!
+//! | call | what it hands back | [grounds](Ground) |
+//! | --- | --- | --- |
+//! | [`measures`] | intensity, saturation and hue bin of a pixel, and whether it is grey | none |
+//! | [`fit`] | the monotone histogram that is nearest to a histogram | 6, 7 |
+//! | [`verdict`] | whether a histogram can be taken for a monotone one, and by how much | 6, 7, 8 |
+//! | [`line_modes`], [`line_modes_into`] | where the modes of a line of bins begin and end | 6, 7, 8; into a list also 10 |
+//! | [`ring_modes`], [`ring_modes_into`] | the same of a ring | 6, 7, 8; into a list also 10 |
+//! | [`card`], [`card_into`] | the card of an image and the label of each pixel | 4, 5, 8, 11; into labels also 9 |
+//! | [`print_card`] | what the card program prints for the text of a swatch | 1, 2, 3, 11 |
+//! | [`version`] | which version the library is | none |
+//!
+//! A *swatch* is the scan of a piece of cloth: the program reads it as text, and the card call takes its pixels. The
+//! *closeness* e, 0 to [`MOST_CLOSENESS`](raw::MOST_CLOSENESS), says how near a histogram must be to a monotone one:
+//! the bar of the test rises by a bit with each step, so that a larger closeness wants clearer evidence for keeping two
+//! modes apart. The program works at 0.
+//!
+//! # Stack, heap and threads
+//!
+//! The engine keeps everything on the stack: a card call takes 510 KB of it and [`print_card`] 591 KB, whatever the
+//! image, every other call less than 32 KB. **A thread that makes cards needs 1 MB.** Threads of the standard library
+//! have 2 MB, if nothing else is asked. The engine keeps no state, so calls may run on any threads at once.
+//!
+//! Only what hands back a `Vec` ([`card`], [`line_modes`], [`ring_modes`]) uses the heap; without the feature `alloc`,
+//! which is on by default, they are left out. The crate does not need the standard library.
+//!
+//! # What is proved, and what is not
+//!
+//! That every call, on every input, gives exactly the answer that the rules define is proved of the engine's source;
+//! `crates/kistrovu/src/lib.rt` states it. The proof does not cover the compiler that makes the library of it, nor
+//! anything of this crate: the declarations of [`raw`] are written by hand, and so is the wrapper around them. They
+//! are tested: the comparison under `tests/` makes every call through these declarations. The wrapper takes no figure
+//! of the library on trust where memory is at stake: lengths are cut to the room there is, and flags are read as bytes.
+#![no_std]
+#![deny(missing_docs)]
+#![warn(unsafe_op_in_unsafe_fn, missing_debug_implementations)]
+
+#[cfg(feature = "alloc")]
+extern crate alloc;
+#[cfg(test)]
+extern crate std;
+
+mod cards;
+mod grounds;
+mod histograms;
+mod measures;
+mod modes;
+pub mod raw;
+mod texts;
+mod versions;
+
+#[cfg(feature = "alloc")]
+pub use cards::{card, Card};
+pub use cards::{card_into, Entries, Entry, Kind};
+pub use grounds::Ground;
+pub use histograms::{fit, verdict, Block, Direction, Fit, Verdict};
+pub use measures::{measures, Measures};
+#[cfg(feature = "alloc")]
+pub use modes::{line_modes, ring_modes};
+pub use modes::{line_modes_into, ring_modes_into};
+pub use texts::{print_card, Printed};
+pub use versions::{version, Version};

@@ -1,0 +1,116 @@
+//! Lists that are lent: a call that is turned down leaves them as they were, one that is served writes the labels or the
+//! first places alone. And the calls that lend none give the same answers.
+
+mod common;
+
+use common::{cube, examples, file, pixels};
+use kistrovu::raw::{MOST_BINS, MOST_CLOSENESS, MOST_PIXELS};
+use kistrovu::*;
+
+const PIXELS: u32 = MOST_PIXELS as u32;
+const HUMPS: [u32; 7] = [0, 20, 0, 0, 20, 0, 30];
+
+type ModesInto = fn(&[u32], u32, &mut [u32]) -> Result<usize, Ground>;
+const MODES: [ModesInto; 2] = [line_modes_into, ring_modes_into];
+
+/// Numbers that are no bins, each another one, so that every place that is written shows.
+fn list(places: usize) -> Vec<u32> {
+    (0..places as u32).map(|place| 1_000_000 + place).collect()
+}
+
+/// The ground, and that the list came back as lent.
+fn modes_turned_down(call: ModesInto, histogram: &[u32], closeness: u32, places: usize) -> Ground {
+    let mut lent = list(places);
+    let ground = call(histogram, closeness, &mut lent).unwrap_err();
+    assert_eq!(lent, list(places));
+    ground
+}
+
+#[test]
+fn modes_that_are_turned_down_leave_the_list() {
+    for call in MODES {
+        let ground = |histogram: &[u32], closeness, places| {
+            modes_turned_down(call, histogram, closeness, places)
+        };
+        assert_eq!(ground(&[], 0, 0), Ground::Bins);
+        assert_eq!(ground(&[5], 0, 5), Ground::Bins);
+        assert_eq!(ground(&[0; MOST_BINS + 1], 21, 300), Ground::Bins);
+        assert_eq!(ground(&[PIXELS, 1], 21, 1), Ground::Sum);
+        assert_eq!(ground(&[u32::MAX; 256], 0, 256), Ground::Sum);
+        assert_eq!(ground(&HUMPS, MOST_CLOSENESS + 1, 6), Ground::Closeness);
+        assert_eq!(ground(&HUMPS, u32::MAX, 7), Ground::Closeness);
+        assert_eq!(ground(&HUMPS, 0, 6), Ground::Separators);
+        assert_eq!(ground(&HUMPS, 0, 0), Ground::Separators);
+    }
+}
+
+#[test]
+fn served_modes_write_the_first_places_alone() {
+    for (call, expected) in MODES.into_iter().zip([vec![0, 2, 5, 6], vec![0, 2, 5]]) {
+        for places in [7, 8, 300] {
+            let mut lent = list(places);
+            let count = call(&HUMPS, 0, &mut lent).unwrap();
+            lent[..count].sort();
+            assert_eq!(lent[..count], expected);
+            assert_eq!(lent[count..], list(places)[count..]);
+        }
+    }
+}
+
+#[test]
+fn limits_are_served() {
+    let mut sum = [0; MOST_BINS];
+    sum[7] = PIXELS;
+    for call in MODES {
+        assert!(call(&sum, MOST_CLOSENESS, &mut [0; MOST_BINS]).is_ok());
+    }
+    assert!(fit(&sum, Direction::Increasing).is_ok());
+    assert!(verdict(&sum, Direction::Decreasing, MOST_CLOSENESS).is_ok());
+    assert!(card(&[7; 3 * MOST_PIXELS], MOST_CLOSENESS).is_ok());
+}
+
+/// The ground, and that the labels came back as lent.
+fn card_turned_down(pixels: &[u8], closeness: u32, places: usize) -> Ground {
+    let lent: Vec<u8> = (0..places).map(|place| (251 - place % 241) as u8).collect();
+    let mut labels = lent.clone();
+    let ground = card_into(pixels, closeness, &mut labels).unwrap_err();
+    assert_eq!(labels, lent);
+    ground
+}
+
+#[test]
+fn a_card_that_is_turned_down_leaves_the_labels() {
+    assert_eq!(card_turned_down(&[], 21, 0), Ground::Bytes);
+    assert_eq!(card_turned_down(&[7; 8], 21, 2), Ground::Bytes);
+    let many = MOST_PIXELS + 1;
+    assert_eq!(card_turned_down(&cube(many), 21, many), Ground::Pixels);
+    assert_eq!(card_turned_down(&cube(2), 21, 3), Ground::Closeness);
+    for places in [0, 1, 3, 6] {
+        assert_eq!(card_turned_down(&cube(2), 0, places), Ground::Labels);
+    }
+    for pixels in [MOST_PIXELS / 4, MOST_PIXELS] {
+        assert_eq!(card_turned_down(&cube(pixels), 0, pixels), Ground::Entries);
+    }
+}
+
+#[test]
+fn with_a_heap_and_without_the_answers_are_the_same() {
+    for name in examples() {
+        let pixels = pixels(&file(&format!("examples/{name}.swatch")));
+        for closeness in [0, 7, MOST_CLOSENESS] {
+            let mut labels = vec![99; pixels.len() / 3];
+            let entries = card_into(&pixels, closeness, &mut labels).unwrap();
+            let card = card(&pixels, closeness).unwrap();
+            assert_eq!((&card.entries[..], card.labels), (&entries[..], labels));
+        }
+    }
+    let mut lent = list(7);
+    let count = line_modes_into(&HUMPS, 0, &mut lent).unwrap();
+    assert_eq!(line_modes(&HUMPS, 0), Ok(lent[..count].to_vec()));
+    let mut lent = list(7);
+    let count = ring_modes_into(&HUMPS, 0, &mut lent).unwrap();
+    lent[..count].sort();
+    let mut separators = ring_modes(&HUMPS, 0).unwrap();
+    separators.sort();
+    assert_eq!(separators, lent[..count]);
+}
