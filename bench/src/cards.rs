@@ -5,6 +5,7 @@ use crate::{medians, others, print, CLOSENESS};
 use cloths::random::Random;
 use cloths::swatch::Swatch;
 use cloths::yarns::{woven, yarns};
+use engine::IntoRaw;
 use reference::calls::CardAnswer;
 use std::hint::black_box;
 
@@ -49,7 +50,7 @@ pub fn wrong(cloth: &Cloth) -> Option<String> {
         }
         let mut engine_labels = vec![0; labels.len()];
         let answer = engine::card(&mut bytes.clone(), closeness, &mut engine_labels);
-        if answer != expected.into() || engine_labels != labels {
+        if answer != expected.into_raw() || engine_labels != labels {
             return Some(format!("engine's card of {}", cloth.name));
         }
     }

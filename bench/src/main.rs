@@ -18,6 +18,7 @@ mod others;
 mod picture;
 
 use cases::{Case, LineCase};
+use engine::IntoRaw;
 use reference::calls::FitAnswer;
 use reference::test::Verdict;
 use std::hint::black_box;
@@ -88,7 +89,7 @@ fn wrong_fit(case: &Case) -> Option<String> {
     let answer = engine::fit(&mut case.histogram.clone(), RISING);
     if fitted != expected {
         Some(format!("Rust fit of {}", case.name))
-    } else if answer != expected.into() {
+    } else if answer != expected.into_raw() {
         Some(format!("engine's fit of {}", case.name))
     } else {
         None
@@ -104,7 +105,7 @@ fn wrong_verdict(case: &Case) -> Option<String> {
             let answer = engine::verdict(&mut case.histogram.clone(), rising, closeness);
             if expected.number != 0 || (Verdict { cost, rejected }) != expected.verdict {
                 return Some(format!("Rust verdict of {}", case.name));
-            } else if answer != expected.into() {
+            } else if answer != expected.into_raw() {
                 return Some(format!("engine's verdict of {}", case.name));
             }
         }

@@ -3,7 +3,7 @@
 
 use crate::card_groups::CardCase;
 use crate::comparison::{Difference, Tally};
-use engine::{Card, Printed};
+use engine::{Card, IntoRaw, Printed};
 
 /// Places in front of and behind the labels that were lent: they are not the engine's to write.
 const AROUND: usize = 5;
@@ -20,7 +20,7 @@ pub fn card(case: &CardCase, tally: &mut Tally) -> Result<(), Difference> {
     let labels = AROUND..AROUND + places;
     let answer = engine::card(&mut lent, *closeness, &mut list[labels.clone()]);
     let expected = reference::calls::card(bytes, *closeness, &mut expected_list[labels]);
-    let expected = Card::from(expected);
+    let expected = expected.into_raw();
     tally.cards += 1;
     tally.count(expected.number);
     tally.several += u64::from(expected.len > 1);
@@ -61,7 +61,7 @@ pub fn card(case: &CardCase, tally: &mut Tally) -> Result<(), Difference> {
 pub fn text(text: &[u8], tally: &mut Tally) -> Result<(), Difference> {
     let mut lent = text.to_vec();
     let answer = engine::print_card(&mut lent);
-    let expected = Printed::from(reference::calls::print_card(text));
+    let expected = reference::calls::print_card(text).into_raw();
     tally.texts += 1;
     tally.count(expected.number);
     if let Some(count) = tally.grounds.get_mut(expected.number as usize) {

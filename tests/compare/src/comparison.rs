@@ -2,6 +2,7 @@
 
 use crate::groups::Case;
 use crate::mode_groups::ModesCase;
+use engine::IntoRaw;
 use std::fmt::Debug;
 
 /// The calls that are compared in this run.
@@ -122,7 +123,7 @@ pub fn every_pixel(tally: &mut Tally) -> Result<(), Difference> {
                 tally.grey += u64::from(expected.measures.grey);
                 same(
                     || format!("measures of {red} {green} {blue}"),
-                    expected.into(),
+                    expected.into_raw(),
                     answer,
                 )?;
             }
@@ -153,7 +154,7 @@ fn fit(histogram: &[u32], rising: bool, tally: &mut Tally) -> Result<(), Differe
     tally.fits += 1;
     tally.count(expected.number);
     let input = || format!("fit, {}, of {}", direction(rising), listed(histogram));
-    same(input, expected.into(), answer)?;
+    same(input, expected.into_raw(), answer)?;
     same(|| format!("histogram after {}", input()), histogram, &lent)
 }
 
@@ -176,7 +177,7 @@ fn verdict(
             listed(histogram)
         )
     };
-    same(input, expected.into(), answer)?;
+    same(input, expected.into_raw(), answer)?;
     same(|| format!("histogram after {}", input()), histogram, &lent)
 }
 
@@ -218,7 +219,7 @@ pub fn modes(form: Form, case: &ModesCase, tally: &mut Tally) -> Result<(), Diff
     } else {
         tally.several += u64::from(count > 2);
     }
-    same(input, (expected.into(), expected_list), (answer, list))?;
+    same(input, (expected.into_raw(), expected_list), (answer, list))?;
     same(|| format!("histogram after {}", input()), histogram, &lent)
 }
 
