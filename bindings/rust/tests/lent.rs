@@ -64,6 +64,8 @@ fn limits_are_served() {
     for call in MODES {
         assert!(call(&sum, MOST_CLOSENESS, &mut [0; MOST_BINS]).is_ok());
     }
+    assert!(line_modes(&sum, MOST_CLOSENESS).is_ok());
+    assert!(ring_modes(&sum, MOST_CLOSENESS).is_ok());
     assert!(fit(&sum, Direction::Increasing).is_ok());
     assert!(verdict(&sum, Direction::Decreasing, MOST_CLOSENESS).is_ok());
     assert!(card(&[7; 3 * MOST_PIXELS], MOST_CLOSENESS).is_ok());
