@@ -98,16 +98,9 @@ pub struct Card {
 /// assert_eq!(card(&[200, 0, 0], 21), Err(Ground::Closeness));
 ///
 /// // The colours of a cube of 8 × 8 × 8, 128 pixels of each, are more than a card may hold.
-/// let levels = || (0..=255).step_by(36);
-/// let mut cube = Vec::new();
-/// for red in levels() {
-///     for green in levels() {
-///         for blue in levels() {
-///             cube.extend([red, green, blue]);
-///         }
-///     }
-/// }
-/// assert_eq!(card(&cube.repeat(128), 0), Err(Ground::Entries));
+/// let levels = |place: u32| [place % 8, place / 8 % 8, place / 64 % 8].map(|level| 36 * level as u8);
+/// let cube: Vec<u8> = (0..65_536).flat_map(levels).collect();
+/// assert_eq!(card(&cube, 0), Err(Ground::Entries));
 /// # Ok::<(), Ground>(())
 /// ```
 #[cfg(feature = "alloc")]
@@ -139,17 +132,9 @@ pub fn card(pixels: &[u8], closeness: u32) -> Result<Card, Ground> {
 /// assert_eq!(labels, [99; 4]);
 ///
 /// // As in the example of `card`.
-/// # let levels = || (0..=255).step_by(36);
-/// # let mut cube = Vec::new();
-/// # for red in levels() {
-/// #     for green in levels() {
-/// #         for blue in levels() {
-/// #             cube.extend([red, green, blue]);
-/// #         }
-/// #     }
-/// # }
-/// let cube = cube.repeat(128);
-/// let mut labels = vec![99; cube.len() / 3];
+/// # let levels = |place: u32| [place % 8, place / 8 % 8, place / 64 % 8].map(|level| 36 * level as u8);
+/// let cube: Vec<u8> = (0..65_536).flat_map(levels).collect();
+/// let mut labels = vec![99; 65_536];
 /// assert_eq!(card_into(&cube, 0, &mut labels), Err(Ground::Entries));
 /// assert_eq!(labels, [99; 65_536]);
 /// # Ok::<(), Ground>(())

@@ -45,14 +45,15 @@
 //!
 //! # What is proved, and what is not
 //!
-//! That every call, on every input, gives exactly the answer that the rules define is proved of the engine's source;
-//! `crates/kistrovu/src/lib.rt` states it. The proof does not cover the compiler that makes the library of it, nor
-//! anything of this crate: the declarations of [`raw`] are written by hand, and so is the wrapper around them. They
-//! are tested: the comparison under `tests/` makes every call through these declarations. The wrapper takes no figure
-//! of the library on trust where memory is at stake: lengths are cut to the room there is, and flags are read as bytes.
+//! That every call, on every input, gives exactly the answer that the rules define (they leave the order of a ring's
+//! separators open, and nothing else) is proved of the engine's source; `crates/kistrovu/src/lib.rt` states it. The proof
+//! does not cover the compiler that makes the library of it, nor anything of this crate: the declarations of [`raw`] are
+//! written by hand, and so is the wrapper around them. They are tested: the comparison under `tests/` makes all calls but
+//! [`version`] through these declarations, and the tests beside this crate make all of them through the wrapper. The
+//! wrapper takes no figure of the library on trust where memory is at stake: lengths are cut to the room there is, and
+//! flags are read as bytes.
 #![no_std]
 #![deny(missing_docs)]
-#![warn(unsafe_op_in_unsafe_fn, missing_debug_implementations)]
 
 #[cfg(feature = "alloc")]
 extern crate alloc;
@@ -79,3 +80,8 @@ pub use modes::{line_modes, ring_modes};
 pub use modes::{line_modes_into, ring_modes_into};
 pub use texts::{print_card, Printed};
 pub use versions::{version, Version};
+
+/// Runs the example of the README with those of the documentation.
+#[cfg(doctest)]
+#[doc = include_str!("../README.md")]
+struct Readme;

@@ -64,16 +64,9 @@ impl fmt::Debug for Printed {
 /// assert_eq!(ground("     1     1\n 256   0   0\n"), Some(Ground::Lines));
 ///
 /// // The colours of a cube of 8 × 8 × 8, 32 pixels of each, are more than a card may hold.
-/// let levels = || (0..=255).step_by(36);
-/// let mut cube = String::new();
-/// for red in levels() {
-///     for green in levels() {
-///         for blue in levels() {
-///             cube += &format!("{red:4}{green:4}{blue:4}\n");
-///         }
-///     }
-/// }
-/// let text = format!("{:6}{:6}\n{}", 128, 128, cube.repeat(32));
+/// let line = |place| format!("{:4}{:4}{:4}\n", place % 8 * 36, place / 8 % 8 * 36, place / 64 % 8 * 36);
+/// let cube: String = (0..16_384).map(line).collect();
+/// let text = format!("{:6}{:6}\n{cube}", 128, 128);
 /// assert_eq!(ground(&text), Some(Ground::Entries));
 /// ```
 pub fn print_card(text: &[u8]) -> Printed {
