@@ -12,13 +12,12 @@ use Rattle.lists.specs.Lists.{padded}
 use Rattle.pixel.specs.declared.Pixel.{Pixel}
 use Rattle.verdict.specs.Test.{Closeness, mostCloseness}
 use Rattle.palette.specs.declared.Entry.{Entry}
-use Rattle.palette.specs.declared.CardEntries.{CardEntries}
+use Rattle.making.specs.declared.CardEntries.{CardEntries}
 use Rattle.palette.specs.Cards.{pixelsOf, entries, labels, mostEntries, noEntry}
 use Rattle.palette.specs.Sound.{mostPixels, SoundCard}
 use Rattle.palette.proofs.Always.{always-sound}
-use Rattle.palette.proofs.Triples.{pixels-length}
-use Rattle.palette.proofs.FirstStage.{pixels-bytes}
-use Rattle.palette.specs.Making.{fits, cardEntries, labelsLeft}
+use Rattle.palette.proofs.Triples.{pixels-length, pixels-bytes}
+use Rattle.making.specs.Making.{fits, cardEntries, labelsLeft}
 use Rattle.kistrovu.specs.declared.Card.{Card}
 use Rattle.kistrovu.specs.Grounds.{Ground, firstGround, badBytes, manyPixels, badCloseness, badLabels, manyEntries, askedNumber, cardNumber}
 use Rattle.kistrovu.specs.Answers.{servedEntries, cardAnswer, labelList}

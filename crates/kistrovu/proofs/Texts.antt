@@ -13,8 +13,8 @@ use Rattle.verdict.specs.Test.{Closeness}
 use Rattle.lists.specs.Lists.{missing, padded}
 use Rattle.lists.proofs.Cases.{by-cond}
 use Rattle.palette.specs.declared.Entry.{Entry}
-use Rattle.palette.specs.declared.CardEntries.{CardEntries}
-use Rattle.palette.specs.Making.{cardEntries}
+use Rattle.making.specs.declared.CardEntries.{CardEntries}
+use Rattle.making.specs.Making.{cardEntries}
 use Rattle.palette.specs.Cards.{pixelsOf, entries, mostEntries, noEntry}
 use Rattle.palette.specs.Sound.{SoundCard}
 use Rattle.swatch.specs.Input.{headerOf, sizeOf, pixelBytes, bytesOf}

@@ -212,7 +212,7 @@ pub extern "C" fn kistrovu_card(pixels: &[u8], closeness: u32, labels: &mut [u8]
             entries: palette::no_entries(),
         };
     }
-    let made = palette::make_card(pixels, closeness, labels);
+    let made = making::make_card(pixels, closeness, labels);
     let entries = made.entries;
     if MOST_ENTRIES < made.total as usize {
         return Card {

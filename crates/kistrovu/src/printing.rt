@@ -27,7 +27,7 @@ fn print_pixels(pixels: &[u8], labels: &mut [u8], out: &mut [u8]) -> Said
     ensures { λ r. ⌜ PixelsPrinted (now (pixels .entry)) (now (out .entry)) (now (out .exit)) r ⌝ }
 {
     let n = labels.len();
-    let made = palette::make_card(pixels, 0, labels);
+    let made = making::make_card(pixels, 0, labels);
     let entries = made.entries;
     if MOST_ENTRIES < made.total as usize {
         return refuse(11, out);

@@ -23,6 +23,17 @@ mostModes hue = 31
 mostModes saturation = 21
 mostModes intensity = 26
 
+pub some-modes : (l : Level) → 1 ≤ mostModes l
+some-modes hue = omega arith
+some-modes saturation = omega arith
+some-modes intensity = omega arith
+
+-- so a mode's number is a digit to base 64
+pub most-modes-few : (l : Level) → mostModes l ≤ 31
+most-modes-few hue = omega arith
+most-modes-few saturation = omega arith
+most-modes-few intensity = omega arith
+
 module _ (bins : ℕ) (ss : List Segment) (c : Cut bins ss) (i : Inside ss) where
   starts-apart : (m : ℕ) → suc m < length ss → 2 * m < segmentAt ss (suc m) .start
   starts-apart zero l = omega (arith, c .adjacent 0 l, c .peakInside 0 (omega arith) .0, i .beforeEnd 0 l)

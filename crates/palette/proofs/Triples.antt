@@ -1,13 +1,13 @@
 -- The pixels of a list of bytes, three to a pixel. Assumes nothing.
-use Prim.Native.Nat.{ℕ, zero, suc, _+_, _*_, _≤_, _<_}
+use Prim.Native.Nat.{ℕ, zero, suc, _+_, _*_, _<_}
 use mathlib.Core.Path.{_≡_, refl, ap, _∙_}
 use mathlib.Core.List.{List, [], _∷_}
 use native.Mathlib.Omega.{arith}
 use lib.ListN.{length, getD}
 use Rattle.pixel.specs.declared.Pixel.{Pixel}
+use Rattle.pixel.specs.Ranges.{Bytes}
 use Rattle.palette.specs.Cards.{pixelsOf}
 use Rattle.palette.specs.Sound.{pixelAt}
-use Rattle.palette.specs.Making.{channel}
 
 pub pixels-length : (bytes : List ℕ) (n : ℕ) → length bytes ≡ 3 * n → length (pixelsOf bytes) ≡ n
 unfolding pixelsOf
@@ -42,18 +42,11 @@ pixels-at bytes i h =
     ∙ ap (λ (m : ℕ). record { red = getD bytes (3 * i) 0; green = getD bytes m 0; blue = getD bytes (suc (suc (3 * i))) 0 }) one
     ∙ ap (λ (m : ℕ). record { red = getD bytes (3 * i) 0; green = getD bytes (3 * i + 1) 0; blue = getD bytes m 0 }) two
 
--- each channel is a byte, also of the pixel that stands for none
-pub channel-le : (bytes : List ℕ) → ((j : ℕ) → getD bytes j 0 < 256) → (c i : ℕ) → channel c (pixelAt (pixelsOf bytes) i) ≤ 255
+-- bytes make pixels of bytes, also the pixel that stands for none
+pub pixels-bytes : (bytes : List ℕ) → ((j : ℕ) → getD bytes j 0 < 256) → (i : ℕ) → Bytes (pixelAt (pixelsOf bytes) i)
 unfolding pixelsOf
-channel-le [] h c i = none c
-  where
-    none : (c : ℕ) → channel c (record { red = 0; green = 0; blue = 0 }) ≤ 255
-    none zero = omega arith
-    none (suc zero) = omega arith
-    none (suc (suc c)) = omega arith
-channel-le (r ∷ []) h c i = channel-le [] (λ j. omega arith) c i
-channel-le (r ∷ g ∷ []) h c i = channel-le [] (λ j. omega arith) c i
-channel-le (r ∷ g ∷ b ∷ rest) h zero zero = omega (arith, h 0)
-channel-le (r ∷ g ∷ b ∷ rest) h (suc zero) zero = omega (arith, h 1)
-channel-le (r ∷ g ∷ b ∷ rest) h (suc (suc c)) zero = omega (arith, h 2)
-channel-le (r ∷ g ∷ b ∷ rest) h c (suc i) = channel-le rest (λ j. h (suc (suc (suc j)))) c i
+pixels-bytes [] h i = record { red = omega arith; green = omega arith; blue = omega arith }
+pixels-bytes (r ∷ []) h i = record { red = omega arith; green = omega arith; blue = omega arith }
+pixels-bytes (r ∷ g ∷ []) h i = record { red = omega arith; green = omega arith; blue = omega arith }
+pixels-bytes (r ∷ g ∷ b ∷ rest) h zero = record { red = omega (arith, h 0); green = omega (arith, h 1); blue = omega (arith, h 2) }
+pixels-bytes (r ∷ g ∷ b ∷ rest) h (suc i) = pixels-bytes rest (λ j. h (suc (suc (suc j)))) i

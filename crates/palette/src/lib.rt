@@ -1,22 +1,14 @@
-// The card of an image: its entries, and the entry of each pixel.
-mod cards;
-mod entries;
-mod levels;
-mod measuring;
-mod modes;
-mod tables;
-
-pub use cards::make_card;
-pub use entries::no_entries;
+// What a card is made of: its entries, and how many of them and of pixels there may be. A card is defined in specs/; `making` has the code that makes it.
+ghost use mathlib.Core.Path.{_≡_};
+ghost use mathlib.Core.List.{[]};
+ghost use Rattle.lists.specs.Lists.{padded};
+ghost use Rattle.palette.specs.Cards.{mostEntries, noEntry};
 
 // The most entries that a card may hold.
 pub const MOST_ENTRIES: usize = 255;
 
 // The most pixels that a call takes.
 pub const MOST_PIXELS: usize = 65536;
-
-// The most nodes while a level is left: the greys, and 31 hue modes of 21 saturation modes each.
-const MOST_NODES: usize = 652;
 
 // An entry of a card: kind 0 for greys and 1 for colours, its three mode numbers, the mean colour of its pixels, and their count.
 #[repr(C)]
@@ -31,8 +23,24 @@ pub struct Entry {
     pub count: u32,
 }
 
-// How many entries a card has as defined, and the entries where a card may hold so many; the places past them are zero.
-pub struct CardEntries {
-    pub total: u32,
-    pub entries: [Entry; MOST_ENTRIES],
+pub fn no_entry() -> Entry
+    ensures { λ r. ⌜ r ≡ noEntry ⌝ }
+{
+    Entry {
+        kind: 0,
+        hue: 0,
+        saturation: 0,
+        intensity: 0,
+        red: 0,
+        green: 0,
+        blue: 0,
+        count: 0,
+    }
+}
+
+// The places of a card without entries.
+pub fn no_entries() -> [Entry; MOST_ENTRIES]
+    ensures { λ r. ⌜ r ≡ padded mostEntries noEntry [] ⌝ }
+{
+    [no_entry(); MOST_ENTRIES]
 }

@@ -6,10 +6,10 @@ use native.Mathlib.Omega.{arith}
 use lib.ListN.{length, getD}
 use Rattle.lists.specs.Lists.{padded}
 use Rattle.palette.specs.declared.Entry.{Entry}
-use Rattle.palette.specs.declared.CardEntries.{CardEntries}
+use Rattle.making.specs.declared.CardEntries.{CardEntries}
 use Rattle.palette.specs.Cards.{pixelsOf, entries, mostEntries, noEntry}
 use Rattle.palette.specs.Sound.{SoundCard, mostPixels}
-use Rattle.palette.specs.Making.{cardEntries}
+use Rattle.making.specs.Making.{cardEntries}
 use Rattle.kistrovu.specs.declared.Card.{Card}
 use Rattle.kistrovu.specs.Grounds.{cardNumber}
 use Rattle.kistrovu.proofs.Cards.{

@@ -8,12 +8,11 @@ use lib.ListN.{length, take, getD}
 use Rattle.lists.specs.Lists.{over}
 use Rattle.verdict.specs.Test.{mostCloseness}
 use Rattle.palette.specs.declared.Entry.{Entry}
-use Rattle.palette.specs.declared.CardEntries.{CardEntries}
+use Rattle.making.specs.declared.CardEntries.{CardEntries}
 use Rattle.palette.specs.Cards.{pixelsOf, entries, mostEntries}
 use Rattle.palette.specs.Sound.{mostPixels, SoundCard}
 use Rattle.palette.proofs.Always.{always-sound}
-use Rattle.palette.proofs.Triples.{pixels-length}
-use Rattle.palette.proofs.FirstStage.{pixels-bytes}
+use Rattle.palette.proofs.Triples.{pixels-length, pixels-bytes}
 use Rattle.swatch.specs.Reading.{mostSwatchPixels}
 use Rattle.swatch.specs.Output.{printedCard, printedMost}
 use Rattle.swatch.proofs.Fits.{printed-fits}

@@ -1,0 +1,105 @@
+-- The bins of a histogram numbered by mode: at each place of its line, and of a ring's opened line, the mode that has begun is the mode it lies in. Assumes nothing.
+use Prim.Native.Nat.{ℕ, zero, suc, _+_, _*_, _-_, _%_, _≤_, _<_}
+use mathlib.Core.Path.{_≡_, refl, sym, ap, _∙_}
+use mathlib.Core.Bool.{Bool, true}
+use mathlib.Core.List.{List}
+use lib.Dec.{eqb}
+use lib.ListN.{length, getD}
+use native.Mathlib.Omega.{arith}
+use borrow.Author.Tests.{eqb-true}
+use Rattle.lists.specs.Lists.{numbers, over, ExactlyOne, firstIndex}
+use Rattle.lists.proofs.Cases.{by-order}
+use Rattle.lists.proofs.Filters.{numbers-length}
+use Rattle.lists.proofs.Buffers.{over-at}
+use Rattle.lists.proofs.Places.{numbers-at}
+use Rattle.lists.proofs.Counting.{one-counted}
+use Rattle.lists.proofs.Firsts.{passes-at-first}
+use Rattle.lists.proofs.Rotations.{mod-below}
+use Rattle.verdict.specs.Test.{Closeness}
+use Rattle.segmentation.specs.Segments.{segmentAt, inMode}
+use Rattle.segmentation.specs.Joining.{lineModes, lineSeparators}
+use Rattle.segmentation.specs.Ring.{opening, opened, ringBin, linePlace, ringModes, inRingMode}
+use Rattle.segmentation.proofs.Finishing.{modes-cut, separators-length, separator-at}
+use Rattle.segmentation.proofs.OneMode.{one-mode, in-mode, in-last-mode}
+use Rattle.segmentation.proofs.RingPlaces.{ring-length, place-in, place-bin}
+use Rattle.palette.specs.Levels.{hue, saturation, intensity}
+use Rattle.dividing.specs.Nodes.{modeOf}
+use Rattle.dividing.specs.Numbering.{RisesFromZero, Begun, PlacesNumbered, BinsNumbered}
+
+-- the one of the numbers below n that passes is the first that does
+pub first-of-one : (n : ℕ) (test : ℕ → Bool) → ExactlyOne n test → (m : ℕ) → m < n → test m ≡ true → firstIndex test (numbers 0 n) ≡ m
+first-of-one n test one m l t =
+    let xs = numbers 0 n in
+    let k : m < length xs = omega (arith, numbers-length 0 n) in
+    let here : getD xs m 0 ≡ m = numbers-at 0 n m 0 l ∙ omega arith in
+    sym (eqb-true m (firstIndex test xs) (sym (passes-at-first test xs 0 (one-counted n test one) m k) ∙ ap test here ∙ t))
+
+-- ---- a line whose separators stand in the first places of a list
+module _ (e : Closeness) (h : List ℕ) (two : 2 ≤ length h) (buffer : List ℕ) where
+  held : List ℕ
+  held = over (lineSeparators e h) buffer
+
+  held-at : (m : ℕ) → m < length (lineModes e h) → getD held m 0 ≡ segmentAt (lineModes e h) m .start
+  unfolding held
+  held-at m l = over-at (lineSeparators e h) buffer m 0 0 (omega (arith, separators-length e h)) ∙ separator-at e h m l
+
+  pub held-rise : RisesFromZero (over (lineSeparators e h) buffer) (length (lineModes e h))
+  unfolding held
+  held-rise =
+      let c = modes-cut e h two in
+      record {
+        zero = held-at 0 (c .nonEmpty) ∙ c .fromFirstBin;
+        rises = λ m l. omega (arith, held-at m (omega arith), held-at (suc m) l, c .adjacent m l, c .ascending m (omega arith));
+      }
+
+  -- the mode that has begun at place i is the one that it lies in
+  begun-in : (m i : ℕ) → Begun held (length (lineModes e h)) m i → i < length h → inMode (lineModes e h) m i ≡ true
+  begun-in m i b l =
+      let ss = lineModes e h in
+      let c = modes-cut e h two in
+      let n = length ss in
+      let from : segmentAt ss m .start ≤ i = omega (arith, held-at m (b .mode), b .begun) in
+      by-order (suc m) n
+      (λ k. in-mode ss m i from (omega (arith, held-at (suc m) k, b .notNext k, c .adjacent m k)))
+      (λ k.
+      let last : suc m ≡ n = omega (arith, b .mode) in
+      let at : m ≡ n - 1 = omega arith in
+      let end = ap (λ (x : ℕ). segmentAt ss x .end) at in
+      by-order i (segmentAt ss m .end) (in-mode ss m i from)
+      (λ p. in-last-mode ss m i from last (omega (arith, end, c .toLastBin))))
+
+  begun-mode : (m i : ℕ) → Begun held (length (lineModes e h)) m i → i < length h
+      → firstIndex (λ k. inMode (lineModes e h) k i) (numbers 0 (length (lineModes e h))) ≡ m
+  begun-mode m i b l =
+      let ss = lineModes e h in
+      first-of-one (length ss) (λ k. inMode ss k i) (one-mode (length h) ss (modes-cut e h two) i l) m (b .mode) (begun-in m i b l)
+
+  pub line-numbered : (first : ℕ) (next : List ℕ) → length next ≡ length h
+      → PlacesNumbered (over (lineSeparators e h) buffer) (length (lineModes e h)) 0 first next
+      → BinsNumbered e intensity h first next (length (lineModes e h))
+  unfolding held modeOf
+  line-numbered first next same p = record {
+    modes = refl;
+    numbered = λ b l.
+        let r = p b (omega arith) in
+        let z : (0 + b) % length next ≡ b = mod-below (0 + b) (length next) (omega arith) ∙ omega arith in
+        ap (λ (k : ℕ). getD next k 0) (sym z) ∙ r .2 ∙ ap (λ (k : ℕ). first + k) (sym (begun-mode (r .0) b (r .1) l));
+  }
+
+-- ---- a ring
+pub ring-numbered : (e : Closeness) (h : List ℕ) → 2 ≤ length h → (buffer : List ℕ) (first : ℕ) (next : List ℕ) → length next ≡ length h
+    → PlacesNumbered (over (lineSeparators e (opened h)) buffer) (length (ringModes e h)) (opening h) first next
+    → BinsNumbered e hue h first next (length (ringModes e h))
+unfolding held modeOf ringModes inRingMode ringBin
+ring-numbered e h two buffer first next same p =
+    let long = ring-length h (omega arith) in
+    record {
+      modes = refl;
+      numbered = λ b l.
+          let i = linePlace h b in
+          let inside : i < length h = place-in h (omega arith) b in
+          let r = p i (omega arith) in
+          let z : (opening h + i) % length next ≡ b = rw same (place-bin h (omega arith) b l) in
+          ap (λ (k : ℕ). getD next k 0) (sym z) ∙ r .2
+          ∙ ap (λ (k : ℕ). first + k) (sym (begun-mode e (opened h) (omega arith) buffer (r .0) i (r .1) (omega arith)));
+    }

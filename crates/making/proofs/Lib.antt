@@ -1,0 +1,4 @@
+mod Totals
+mod Figures
+mod EntriesMade
+mod Completed

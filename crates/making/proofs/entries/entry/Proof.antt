@@ -1,0 +1,44 @@
+-- `entry` meets its contract. Assumes nothing.
+use mathlib.Core.Path.{refl}
+use borrow.Author.Needs.{needs}
+use Rattle.making.specs.Making.{entryBy}
+use Rattle.making.proofs.entries.entry.Statement.{statement}
+use Rattle.making.proofs.entries.entry.Tie as tie
+
+cast-t7 : tie.Need-cast-t7
+cast-t7 c = search needs
+
+cast-t10 : tie.Need-cast-t10
+cast-t10 c = search needs
+
+cast-t13 : tie.Need-cast-t13
+cast-t13 c = search needs
+
+cast-t15 : tie.Need-cast-t15
+cast-t15 c = search needs
+
+mean-requires : tie.Need-mean-requires
+mean-requires c κs = search needs
+
+mean-requires-2 : tie.Need-mean-requires-2
+mean-requires-2 c κs = search needs
+
+mean-requires-3 : tie.Need-mean-requires-3
+mean-requires-3 c κs = search needs
+
+returns : tie.Need-returns
+unfolding entryBy
+returns c = rw (c .before .before .mean .ensures, c .before .mean2 .ensures, c .mean3 .ensures) refl
+
+pub entry-spec : {M : Type 1} → statement M
+entry-spec =
+    tie.close
+    (tie.spec
+    cast-t7
+    cast-t10
+    cast-t13
+    cast-t15
+    mean-requires
+    mean-requires-2
+    mean-requires-3
+    returns)

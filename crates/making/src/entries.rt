@@ -1,0 +1,102 @@
+// The entries of a card, from the label of each pixel and the code of each entry.
+use dividing::count_cells;
+use dividing::pixel_at;
+use palette::Entry;
+use palette::MOST_ENTRIES;
+use palette::no_entry;
+use pixel::Pixel;
+ghost use mathlib.Core.Path.{_≡_};
+ghost use mathlib.Core.List.{[]};
+ghost use Prim.Native.Nat.{_≤_, _<_, _*_, _+_, _^_};
+ghost use lib.ListN.{length, take, getD, replicate};
+ghost use Rattle.lists.specs.Lists.{padded};
+ghost use Rattle.palette.specs.Cards.{pixelsOf, mostEntries, noEntry};
+ghost use Rattle.palette.specs.Sound.{mostPixels};
+ghost use Rattle.dividing.specs.Nodes.{AllBelow};
+ghost use Rattle.making.specs.Making.{channel, channelTotals, meanBy, entryBy, entriesBy, AllBorne};
+
+// One of a pixel's three channels: 0 red, 1 green, 2 blue.
+fn channel_of(p: Pixel, c: usize) -> u8
+    ensures { λ r. ⌜ r ≡ channel c p ⌝ }
+{
+    if c == 0 {
+        p.red
+    } else if c == 1 {
+        p.green
+    } else {
+        p.blue
+    }
+}
+
+// The totals of one channel, label by label.
+fn add_channel(pixels: &[u8], c: usize, labels: &[u16], totals: &mut [u32])
+    requires { ⌜ (length (now pixels) ≡ 3 * length (now labels)) × (length (now labels) ≤ mostPixels) × AllBelow (now labels) (length (now totals)) ⌝ }
+    requires { ⌜ now totals ≡ replicate (length (now totals)) 0 ⌝ }
+    ensures { λ _. ⌜ now (totals .exit) ≡ channelTotals (length (now (totals .entry))) c (now (labels .entry)) (pixelsOf (now (pixels .entry))) ⌝ }
+{
+    let mut i = 0;
+    while i < labels.len() {
+        let k = labels[i] as usize;
+        totals[k] = totals[k] + channel_of(pixel_at(pixels, i), c) as u32;
+        i += 1;
+    }
+}
+
+// A mean, halves up.
+fn mean(total: u32, count: u32) -> u8
+    requires { ⌜ (0 < count) × (count ≤ mostPixels) × (total ≤ 255 * count) ⌝ }
+    ensures { λ r. ⌜ r ≡ meanBy total count ⌝ }
+{
+    ((2 * total + count) / (2 * count)) as u8
+}
+
+fn entry(code: u32, count: u32, red: u32, green: u32, blue: u32) -> Entry
+    requires { ⌜ (code < 2 ^ 19) × (0 < count) × (count ≤ mostPixels) × (red ≤ 255 * count) × (green ≤ 255 * count) × (blue ≤ 255 * count) ⌝ }
+    ensures { λ r. ⌜ r ≡ entryBy code count red green blue ⌝ }
+{
+    Entry {
+        kind: (code / 262144) as u8,
+        hue: (code / 4096 % 64) as u8,
+        saturation: (code / 64 % 64) as u8,
+        intensity: (code % 64) as u8,
+        red: mean(red, count),
+        green: mean(green, count),
+        blue: mean(blue, count),
+        count: count,
+    }
+}
+
+// The entries of the n labels that the pixels bear.
+pub fn entries_of(pixels: &[u8], labels: &[u16], codes: &[u32], n: usize) -> [Entry; MOST_ENTRIES]
+    requires { ⌜ (length (now pixels) ≡ 3 * length (now labels)) × (length (now labels) ≤ mostPixels) × (n ≤ mostEntries) × (n ≤ length (now codes)) ⌝ }
+    requires { ⌜ AllBelow (now labels) n × AllBelow (take n (now codes)) (2 ^ 19) × AllBorne n (now labels) ⌝ }
+    ensures { λ r. ⌜ r ≡ padded mostEntries noEntry (entriesBy n (now (codes .entry)) (now (labels .entry)) (pixelsOf (now (pixels .entry)))) ⌝ }
+{
+    let mut counts = [0u32; MOST_ENTRIES];
+    let mut reds = [0u32; MOST_ENTRIES];
+    let mut greens = [0u32; MOST_ENTRIES];
+    let mut blues = [0u32; MOST_ENTRIES];
+    count_cells(labels, &mut counts);
+    add_channel(pixels, 0, labels, &mut reds);
+    add_channel(pixels, 1, labels, &mut greens);
+    add_channel(pixels, 2, labels, &mut blues);
+    let mut entries = [no_entry(); MOST_ENTRIES];
+    let mut k = 0;
+    while k < n {
+        entries[k] = entry(codes[k], counts[k], reds[k], greens[k], blues[k]);
+        k += 1;
+    }
+    entries
+}
+
+// Each pixel's label, one byte.
+pub fn write_labels(cells: &[u16], labels: &mut [u8])
+    requires { ⌜ (length (now cells) ≡ length (now labels)) × AllBelow (now cells) (2 ^ 8) ⌝ }
+    ensures { λ _. ⌜ now (labels .exit) ≡ now (cells .entry) ⌝ }
+{
+    let mut i = 0;
+    while i < labels.len() {
+        labels[i] = cells[i] as u8;
+        i += 1;
+    }
+}
