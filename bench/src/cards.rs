@@ -1,7 +1,7 @@
 //! Cards of noisy cloths: the engine against the Rust program, and beside them other programs that reduce colours.
 
 use crate::fast_cards::{self, Scratch};
-use crate::{medians, others, print, CLOSENESS};
+use crate::{imagequant, medians, others, print, CLOSENESS};
 use cloths::random::Random;
 use cloths::swatch::Swatch;
 use cloths::yarns::{woven, yarns};
@@ -68,6 +68,7 @@ pub fn time(cloths: &[Cloth]) {
     for (cloth, engine) in cloths.iter().zip(times) {
         if cloth.yarns == SHOWN {
             let entries = fast_card(&cloth.swatch.bytes(), CLOSENESS).0.len;
+            imagequant::time(&cloth.name, &cloth.swatch, entries);
             others::time(&cloth.name, &cloth.swatch, entries, engine);
         }
     }

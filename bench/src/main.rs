@@ -14,6 +14,7 @@ mod cards;
 mod cases;
 mod fast;
 mod fast_cards;
+mod imagequant;
 mod others;
 mod picture;
 

@@ -1,5 +1,5 @@
 //! Other programs that reduce a picture's colours, where they are installed. They are given the picture as a file and
-//! as many colours as the card has entries. Their times hold starting the program and reading and writing files, which
+//! as many colours as the card has entries, where they ask for that. Their times hold starting the program and reading and writing files, which
 //! the time on a picture of four pixels shows by itself.
 
 use crate::picture::png;
@@ -15,15 +15,11 @@ const ROUNDS: usize = 9;
 
 type Arguments = fn(&Path, &Path, u32) -> Command;
 
-/// A program's name, and how it is called.
-const PROGRAMS: [(&str, Arguments); 3] = [
-    ("pngquant", pngquant),
-    ("magick", |from, to, colours| {
-        image_magick("magick", from, to, colours)
-    }),
-    ("convert", |from, to, colours| {
-        image_magick("convert", from, to, colours)
-    }),
+/// What is timed, the program that must be there, and how it is called.
+const PROGRAMS: [(&str, &str, Arguments); 3] = [
+    ("pngquant", "pngquant", pngquant),
+    ("convert -colors", "convert", image_magick_colours),
+    ("convert -segment", "convert", image_magick_segments),
 ];
 
 fn pngquant(from: &Path, to: &Path, colours: u32) -> Command {
@@ -33,10 +29,17 @@ fn pngquant(from: &Path, to: &Path, colours: u32) -> Command {
     command
 }
 
-fn image_magick(program: &str, from: &Path, to: &Path, colours: u32) -> Command {
-    let mut command = Command::new(program);
+fn image_magick_colours(from: &Path, to: &Path, colours: u32) -> Command {
+    let mut command = Command::new("convert");
     command.arg(from).args(["+dither", "-colors"]);
     command.arg(colours.to_string()).arg(to);
+    command
+}
+
+/// It finds the colours from the histograms by itself, as a card does; thresholds are those that its manual has.
+fn image_magick_segments(from: &Path, to: &Path, _colours: u32) -> Command {
+    let mut command = Command::new("convert");
+    command.arg(from).args(["-segment", "1x1.5"]).arg(to);
     command
 }
 
@@ -44,8 +47,8 @@ fn image_magick(program: &str, from: &Path, to: &Path, colours: u32) -> Command 
 pub fn time(name: &str, swatch: &Swatch, entries: u32, engine: f64) {
     let colours = entries.max(2);
     let small = Swatch::new(2, 2, |column, row| [100 * column as u8, 100 * row as u8, 0]);
-    for (program, arguments) in PROGRAMS {
-        let heading = format!("{program}, {name}");
+    for (title, program, arguments) in PROGRAMS {
+        let heading = format!("{title}, {name}");
         if !installed(program) {
             println!("{heading:32} not installed");
             continue;
