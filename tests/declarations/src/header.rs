@@ -1,0 +1,172 @@
+//! The other direction: what the header has must be in the source, so that nothing in it goes unchecked.
+
+use crate::c::struct_name;
+use crate::grounds::Ground;
+use crate::rattle::{Source, Struct};
+use crate::tokens::{tokens, without_comments, Cursor};
+use std::collections::BTreeSet;
+
+/// What a scan of the header finds, in its order.
+#[derive(Clone, Debug, Default, PartialEq, Eq)]
+pub struct Header {
+    pub macros: Vec<String>,
+    pub structs: Vec<(String, Vec<String>)>,
+    pub calls: Vec<String>,
+    pub grounds: Vec<Enumerator>,
+}
+
+#[derive(Clone, Debug, PartialEq, Eq)]
+pub struct Enumerator {
+    pub name: String,
+    pub number: u64,
+    pub words: String,
+}
+
+/// The guard against a second inclusion, which stands for nothing.
+const GUARD: &str = "KISTROVU_H";
+
+impl Header {
+    pub fn read(text: &str) -> Result<Self, String> {
+        let bare = without_comments(text, "/*", "*/");
+        let found = tokens(&bare);
+        let mut header = Header {
+            macros: macros(&bare),
+            grounds: enumerators(text)?,
+            ..Header::default()
+        };
+        let mut cursor = Cursor::new(&found);
+        while !cursor.is_at_end() {
+            let named = cursor.passes("struct");
+            let name = cursor.next();
+            if named && cursor.passes("{") {
+                let fields = fields(&mut cursor)?;
+                header.structs.push((name.to_string(), fields));
+            } else if !named && name.starts_with("kistrovu_") && cursor.sees("(") {
+                header.calls.push(name.to_string());
+            }
+        }
+        Ok(header)
+    }
+
+    /// Calls, structs with their fields, macros and grounds are those of the source, each once, and no others.
+    pub fn agrees(
+        &self,
+        source: &Source,
+        values: &[(String, u64)],
+        grounds: &[Ground],
+    ) -> Result<(), String> {
+        let calls = source.calls.iter().map(|call| call.name.clone());
+        same("calls", &self.calls, calls)?;
+        let structs = source.structs.iter();
+        same("structs", &self.structs, structs.map(expected_struct))?;
+        let values = values.iter().map(|(name, _)| name.clone());
+        same("macros", &self.macros, values)?;
+        self.grounds_agree(grounds)
+    }
+
+    /// One enumerator for each number from 0 on, in order, and beside each ground its words.
+    fn grounds_agree(&self, grounds: &[Ground]) -> Result<(), String> {
+        let numbers: Vec<u64> = self.grounds.iter().map(|found| found.number).collect();
+        let expected: Vec<u64> = (0..=grounds.len() as u64).collect();
+        if numbers != expected {
+            return Err(format!("the numbers of the grounds are {numbers:?}"));
+        }
+        let named = self.grounds.iter().skip(1).zip(grounds);
+        match named.into_iter().find(|(f, g)| f.words != g.words) {
+            Some((found, _)) => Err(format!("the words of {} are others", found.name)),
+            None => Ok(()),
+        }
+    }
+}
+
+fn expected_struct(made: &Struct) -> (String, Vec<String>) {
+    let fields = made.fields.iter().map(|field| field.name.clone());
+    (struct_name(&made.name), fields.collect())
+}
+
+/// The same things, whatever the order; none stands twice.
+fn same<T: Ord + Clone + std::fmt::Debug>(
+    what: &str,
+    found: &[T],
+    expected: impl Iterator<Item = T>,
+) -> Result<(), String> {
+    let expected: BTreeSet<T> = expected.collect();
+    let set: BTreeSet<T> = found.iter().cloned().collect();
+    if set.len() < found.len() {
+        return Err(format!("{what}: one is declared twice"));
+    }
+    let differ: Vec<&T> = set.symmetric_difference(&expected).collect();
+    match differ.is_empty() {
+        true => Ok(()),
+        false => Err(format!(
+            "{what}: only in the header or the source: {differ:?}"
+        )),
+    }
+}
+
+/// The names that are defined, but for the guard.
+fn macros(text: &str) -> Vec<String> {
+    let defined = text.lines().filter_map(|line| {
+        let line = line.trim_start().strip_prefix('#')?;
+        line.trim_start().strip_prefix("define")
+    });
+    let names = defined.filter_map(|rest| tokens(rest).into_iter().next());
+    names.filter(|name| name != GUARD).collect()
+}
+
+/// The names of the fields of a struct, whose types are the compiler's to check.
+fn fields(cursor: &mut Cursor) -> Result<Vec<String>, String> {
+    let mut fields = Vec::new();
+    let mut last = "";
+    while !cursor.passes("}") {
+        match cursor.next() {
+            "" => return Err("a struct has no end".to_string()),
+            ";" => fields.push(last.to_string()),
+            "[" => {
+                cursor.word()?;
+                cursor.expect("]")?;
+            }
+            "," => return Err("a field is expected to stand by itself".to_string()),
+            word => last = word,
+        }
+    }
+    Ok(fields)
+}
+
+/// The lines `NAME = NUMBER, /* words */` of the grounds.
+fn enumerators(text: &str) -> Result<Vec<Enumerator>, String> {
+    let (_, rest) = text
+        .split_once("enum kistrovu_ground {")
+        .ok_or("the grounds are missing")?;
+    let (body, _) = rest.split_once('}').ok_or("the grounds have no end")?;
+    let lines = body.lines().map(str::trim).filter(|line| !line.is_empty());
+    lines.map(enumerator).collect()
+}
+
+fn enumerator(line: &str) -> Result<Enumerator, String> {
+    let not_one = || format!("`{line}` is no ground");
+    let (code, comment) = line.split_once("/*").unwrap_or((line, "*/"));
+    let words = comment.strip_suffix("*/").ok_or_else(not_one)?;
+    let code = code.trim().trim_end_matches(',');
+    let (name, number) = code.split_once(" = ").ok_or_else(not_one)?;
+    Ok(Enumerator {
+        name: name.to_string(),
+        number: number.parse().map_err(|_| not_one())?,
+        words: words.trim().to_string(),
+    })
+}
+
+/// The header's macros, and the figures of the source that they stand for.
+pub fn values(source: &Source) -> Result<Vec<(String, u64)>, String> {
+    let named = |name: &str, value| (format!("KISTROVU_{name}"), value);
+    let version = source.constant("VERSION")?;
+    Ok(vec![
+        named("VERSION", version),
+        named("VERSION_MAJOR", version / 10_000),
+        named("VERSION_MINOR", version / 100 % 100),
+        named("VERSION_PATCH", version % 100),
+        named("MOST_BINS", source.length("FitAnswer", "sums")?),
+        named("MOST_ENTRIES", source.constant("MOST_ENTRIES")?),
+        named("MOST_PRINTED", source.constant("PRINTED_MOST")?),
+    ])
+}

@@ -1,0 +1,214 @@
+//! The header agrees with the source, and wrong headers are refused, each for what is wrong in it.
+
+use declarations::{edited, is_installed, Texts};
+use std::fs;
+use std::path::{Path, PathBuf};
+
+/// What is altered, what it becomes, and a part of what must be said about it.
+type Wrong = (&'static str, &'static str, &'static str);
+
+/// An empty folder below the build's own.
+fn folder(name: &str) -> PathBuf {
+    let folder = Path::new(env!("CARGO_TARGET_TMPDIR")).join(name);
+    let _ = fs::remove_dir_all(&folder);
+    fs::create_dir_all(&folder).expect("a folder can be made");
+    folder
+}
+
+fn refused(name: &str, edits: &[Wrong]) {
+    let right = Texts::of_repository();
+    let folder = folder(name);
+    for (from, to, said) in edits {
+        let mut wrong = right.clone();
+        wrong.header = edited(&right.header, from, to);
+        let found = wrong.check_header(&folder).expect_err(to);
+        assert!(found.contains(said), "`{to}` is refused, but with: {found}");
+    }
+}
+
+#[test]
+fn the_header_agrees() {
+    let checked = Texts::of_repository().check_header(&folder("header"));
+    assert_eq!(checked, Ok(()));
+    if !is_installed("g++") {
+        println!("g++ is not installed: the header was not tried in C++");
+    }
+}
+
+#[test]
+fn wrong_structs_are_refused() {
+    let edits = [
+        (
+            "    uint32_t sums[KISTROVU_MOST_BINS];\n    uint32_t lengths[KISTROVU_MOST_BINS];\n",
+            "    uint32_t lengths[KISTROVU_MOST_BINS];\n    uint32_t sums[KISTROVU_MOST_BINS];\n",
+            "the place of sums in struct kistrovu_fit_answer",
+        ),
+        (
+            "    uint32_t count;",
+            "    uint64_t count;",
+            "the size of count in struct kistrovu_entry",
+        ),
+        (
+            "    bool rejected;",
+            "    uint8_t rejected;",
+            "the type of rejected in struct kistrovu_verdict",
+        ),
+        (
+            "    int64_t cost;",
+            "    uint64_t cost;",
+            "the type of cost in struct kistrovu_verdict",
+        ),
+        (
+            "entries[KISTROVU_MOST_ENTRIES];",
+            "entries[KISTROVU_MOST_BINS];",
+            "the size of entries in struct kistrovu_card",
+        ),
+        (
+            "    struct kistrovu_verdict verdict;",
+            "    int64_t verdict[2];",
+            "the type of verdict in struct kistrovu_verdict_answer",
+        ),
+        ("    uint32_t separators;\n", "", "separators"),
+        // It fits into the gap before the count, so that no size or place changes.
+        (
+            "    uint8_t blue;\n",
+            "    uint8_t blue;\n    uint8_t alpha;\n",
+            "\"alpha\"",
+        ),
+        (
+            "struct kistrovu_printed {",
+            "struct kistrovu_text {",
+            "struct kistrovu_printed",
+        ),
+        (
+            "enum kistrovu_ground {",
+            "struct kistrovu_more { uint32_t more; };\nenum kistrovu_ground {",
+            "kistrovu_more",
+        ),
+    ];
+    refused("structs", &edits);
+}
+
+#[test]
+fn wrong_calls_are_refused() {
+    let edits = [
+        (
+            "kistrovu_print_card(const uint8_t *text",
+            "kistrovu_print_card(uint8_t *text",
+            "is_kistrovu_print_card",
+        ),
+        (
+            "uint8_t *labels",
+            "const uint8_t *labels",
+            "is_kistrovu_card",
+        ),
+        (
+            "bool rising, uint32_t closeness",
+            "bool rising, uint8_t closeness",
+            "is_kistrovu_verdict",
+        ),
+        (
+            "bool rising, uint32_t closeness",
+            "uint32_t closeness, bool rising",
+            "is_kistrovu_verdict",
+        ),
+        (
+            "size_t bytes, uint32_t closeness",
+            "uint32_t bytes, uint32_t closeness",
+            "is_kistrovu_card",
+        ),
+        (
+            "struct kistrovu_modes_answer kistrovu_line_modes",
+            "struct kistrovu_verdict_answer kistrovu_line_modes",
+            "is_kistrovu_line_modes",
+        ),
+        (
+            "kistrovu_version(void)",
+            "kistrovu_version()",
+            "strict-prototypes",
+        ),
+        (
+            "kistrovu_modes_answer kistrovu_ring_modes(",
+            "kistrovu_modes_answer kistrovu_rings(",
+            "kistrovu_ring_modes",
+        ),
+    ];
+    refused("calls", &edits);
+}
+
+#[test]
+fn calls_left_over_are_refused() {
+    let edits = [
+        (
+            "uint32_t kistrovu_version(void);",
+            "uint32_t kistrovu_version(void);\nuint32_t kistrovu_more(void);",
+            "calls: only in the header or the source: [\"kistrovu_more\"]",
+        ),
+        (
+            "uint32_t kistrovu_version(void);",
+            "uint32_t kistrovu_version(void);\nuint32_t kistrovu_version(void);",
+            "calls: one is declared twice",
+        ),
+    ];
+    refused("left-over", &edits);
+}
+
+#[test]
+fn wrong_grounds_are_refused() {
+    let edits = [
+        (
+            "KISTROVU_SUM = 7,",
+            "KISTROVU_SUM = 8,",
+            "numbers of the grounds",
+        ),
+        (
+            "KISTROVU_ENTRIES = 11 ",
+            "KISTROVU_ENTRIES = 12 ",
+            "numbers of the grounds",
+        ),
+        ("    KISTROVU_SERVED = 0,\n", "", "numbers of the grounds"),
+        (
+            "    KISTROVU_SERVED = 0,\n",
+            "    KISTROVU_SERVED = 0,\n    KISTROVU_MORE = 12,\n",
+            "numbers of the grounds",
+        ),
+        (
+            "closeness is above 20 */",
+            "closeness is above 21 */",
+            "the words of KISTROVU_CLOSENESS",
+        ),
+    ];
+    refused("grounds", &edits);
+}
+
+#[test]
+fn wrong_macros_are_refused() {
+    let edits = [
+        (
+            "#define KISTROVU_MOST_ENTRIES 255",
+            "#define KISTROVU_MOST_ENTRIES 254",
+            "KISTROVU_MOST_ENTRIES",
+        ),
+        (
+            "#define KISTROVU_VERSION_MINOR 0",
+            "#define KISTROVU_VERSION_MINOR 1",
+            "KISTROVU_VERSION_MINOR",
+        ),
+        (
+            "#define KISTROVU_MOST_BINS 256\n",
+            "#define KISTROVU_MOST_BINS 256\n#define KISTROVU_MOST_MORE 1\n",
+            "macros: only in the header or the source: [\"KISTROVU_MOST_MORE\"]",
+        ),
+    ];
+    refused("macros", &edits);
+}
+
+#[test]
+fn wrong_guards_are_refused() {
+    let edit = ("#ifndef KISTROVU_H\n", "#if 1\n", "redefinition");
+    refused("guards", &[edit]);
+    if is_installed("g++") {
+        let edit = ("extern \"C\" {", "extern \"C++\" {", "linkage");
+        refused("linkage", &[edit]);
+    }
+}

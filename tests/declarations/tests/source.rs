@@ -1,0 +1,160 @@
+//! The source is read whole and strictly, and a source that has changed is seen in the header.
+
+use declarations::rattle::Source;
+use declarations::tokens::tokens;
+use declarations::{edited, grounds, root, Texts, FILES};
+use std::fs;
+use std::path::Path;
+
+fn marks(text: &str, mark: &str) -> usize {
+    text.matches(mark).count()
+}
+
+#[test]
+fn all_that_is_marked_is_read() {
+    let texts = Texts::of_repository();
+    let source = texts.source().expect("the source can be read");
+    let total = |mark| texts.rattle.iter().map(|(_, text)| marks(text, mark)).sum();
+    assert_eq!(source.structs.len(), total("#[repr(C)]"));
+    assert_eq!(source.calls.len(), total("#[no_mangle]"));
+    let unused = source.structs.iter().find(|made| !source.is_used(made));
+    assert_eq!(unused, None);
+}
+
+#[test]
+fn no_other_file_exports() {
+    let crates = fs::read_dir(root().join("crates")).expect("the crates can be read");
+    let folders = crates.map(|entry| entry.expect("a crate").path().join("src"));
+    let files = folders.flat_map(|folder| fs::read_dir(folder).expect("a crate has sources"));
+    let files: Vec<_> = files.map(|entry| entry.expect("a file").path()).collect();
+    assert!(files.len() > FILES.len());
+    for file in files {
+        let text = fs::read_to_string(&file).expect("a source is text");
+        let exports = marks(&text, "no_mangle") + marks(&text, "repr(") > 0;
+        let known = FILES.iter().any(|name| same(&root().join(name), &file));
+        assert!(known || !exports, "{}", file.display());
+    }
+}
+
+fn same(a: &Path, b: &Path) -> bool {
+    a.canonicalize().ok() == b.canonicalize().ok()
+}
+
+const SMALL: &str = "
+const MOST: usize = 2 + 3 * 4;
+#[repr(C)]
+pub struct Inner { pub small: u8, pub large: i64, pub last: bool, }
+// #[repr(C)] pub struct Comment
+#[repr(C)]
+pub struct Answer { pub number: u32, pub inner: [Inner; MOST], pub tail: [u8; 3], }
+#[no_mangle]
+pub extern \"C\" fn call(list: &[u32], places: &mut [u8], flag: bool) -> Answer ensures { λ r. ⌜ r ⌝ } { 0 }
+";
+
+#[test]
+fn layouts_follow_the_rule_of_c() {
+    let source = Source::read([("small", SMALL)]).expect("it can be read");
+    let [inner, answer] = source.structs.as_slice() else {
+        panic!("{:?}", source.structs)
+    };
+    assert_eq!(source.places(inner), [0, 8, 16, 17]);
+    assert_eq!(source.layout(inner).size, 24);
+    assert_eq!(source.places(answer), [0, 8, 8 + 14 * 24, 8 + 14 * 24 + 3]);
+    assert_eq!(source.layout(answer).size, 8 + 14 * 24 + 8);
+    assert_eq!(source.layout(answer).align, 8);
+}
+
+#[test]
+fn wrong_sources_are_refused() {
+    let edits = [
+        ("pub large: i64", "pub large: u64", "the type u64"),
+        ("pub large: i64", "large: i64", "`pub` is expected"),
+        ("[Inner; MOST]", "[Outer; MOST]", "the type Outer"),
+        ("[Inner; MOST]", "[Inner; LEAST]", "the value LEAST"),
+        ("[Inner; MOST]", "[[Inner; 2]; MOST]", "a name is expected"),
+        ("-> Answer", "-> Said", "the type Said"),
+        ("-> Answer", "", "`->` is expected"),
+        ("&[u32]", "&u32", "`[` is expected"),
+        ("struct Answer", "enum Answer", "`(C)] pub struct`"),
+        ("#[no_mangle]\n", "", "`#[no_mangle]` is expected"),
+        (
+            "pub extern \"C\" fn",
+            "pub fn",
+            "`pub extern \"C\" fn` is expected",
+        ),
+        ("2 + 3 * 4", "2 - 1", "`;` is expected"),
+        ("struct Answer", "struct Inner", "Inner is declared twice"),
+    ];
+    for (from, to, said) in edits {
+        let text = edited(SMALL, from, to);
+        let found = Source::read([("small", text.as_str())]).expect_err(to);
+        assert!(found.contains(said), "`{to}` is refused, but with: {found}");
+    }
+}
+
+#[test]
+fn a_source_that_exports_nothing_is_refused() {
+    let (structs, _) = SMALL.split_once("#[no_mangle]").expect("there is a call");
+    let call = "#[no_mangle] pub extern \"C\" fn call() -> u32 { 0 }";
+    for text in ["", structs, call] {
+        let found = Source::read([("small", text)]).expect_err(text);
+        assert_eq!(found, "no struct or no call is exported");
+    }
+}
+
+#[test]
+fn a_changed_source_is_seen() {
+    let edits = [
+        (
+            "crates/palette/src/lib.rt",
+            "MOST_ENTRIES: usize = 255",
+            "MOST_ENTRIES: usize = 250",
+            "KISTROVU_MOST_PRINTED",
+        ),
+        (
+            "crates/pixel/src/lib.rt",
+            "pub grey: bool",
+            "pub grey: u8",
+            "the type of grey",
+        ),
+        (
+            "crates/kistrovu/src/lib.rt",
+            "kistrovu_ring_modes",
+            "kistrovu_rings",
+            "kistrovu_rings",
+        ),
+    ];
+    let right = Texts::of_repository();
+    let folder = Path::new(env!("CARGO_TARGET_TMPDIR")).join("source");
+    fs::create_dir_all(&folder).expect("a folder can be made");
+    for (file, from, to, said) in edits {
+        let mut wrong = right.clone();
+        let text = wrong.rattle.iter_mut().find(|(name, _)| *name == file);
+        let (_, text) = text.expect(file);
+        *text = edited(text, from, to);
+        let found = wrong.check_header(&folder).expect_err(to);
+        assert!(found.contains(said), "`{to}` is seen, but with: {found}");
+    }
+}
+
+#[test]
+fn wrong_lists_of_grounds_are_refused() {
+    let right = Texts::of_repository().grounds;
+    assert!(grounds::read(&right).is_ok());
+    let wrong = [
+        edited(&right, "-- 9. '", "-- 10. '"),
+        edited(&right, "number = 9;", "number = 8;"),
+        String::new(),
+    ];
+    for text in wrong {
+        assert!(grounds::read(&text).is_err());
+    }
+}
+
+#[test]
+fn words_and_signs_are_told_apart() {
+    assert_eq!(
+        tokens("a_1[ 22]->b"),
+        ["a_1", "[", "22", "]", "-", ">", "b"]
+    );
+}
