@@ -56,8 +56,13 @@ enum kistrovu_ground {
     KISTROVU_ENTRIES = 11      /* the card as defined has more than 255 entries */
 };
 
+/* The limits: of a histogram, of the closeness, of an image and its card, of a swatch's text and what is printed. */
 #define KISTROVU_MOST_BINS 256
+#define KISTROVU_MOST_CLOSENESS 20
+#define KISTROVU_MOST_PIXELS 65536
 #define KISTROVU_MOST_ENTRIES 255
+#define KISTROVU_MOST_SWATCH_PIXELS 16384
+#define KISTROVU_MOST_TEXT (13 * (1 + KISTROVU_MOST_SWATCH_PIXELS)) /* a header and a line for each pixel, 13 bytes each */
 #define KISTROVU_MOST_PRINTED 12514
 
 /* ---- the measures of one pixel; no ground concerns it */

@@ -21,11 +21,12 @@ pub struct Stored {
     pub card: Vec<u8>,
 }
 
-/// A folder of texts, and how their files end.
+/// A folder of texts, how their files end, and what else is kept there.
 pub struct Folder {
     pub path: PathBuf,
     pub ending: &'static str,
     pub made: Vec<Made>,
+    pub others: &'static [&'static str],
 }
 
 pub fn folders() -> [Folder; 2] {
@@ -35,11 +36,13 @@ pub fn folders() -> [Folder; 2] {
             path: here.join("../swatches"),
             ending: "txt",
             made: [well_formed::swatches(), damaged::swatches()].concat(),
+            others: &["README.md"],
         },
         Folder {
             path: here.join("../../examples"),
             ending: "swatch",
             made: weaves::examples(),
+            others: &["README.md", "controller.c"],
         },
     ]
 }

@@ -25,7 +25,8 @@ fn there_are_no_other_files() {
     for folder in folders() {
         let files = folder.files().expect("the folder can be read");
         let found: BTreeSet<String> = files.into_iter().collect();
-        let mut expected = BTreeSet::from(["README.md".to_string()]);
+        let others = folder.others.iter();
+        let mut expected: BTreeSet<String> = others.map(|name| name.to_string()).collect();
         for made in &folder.made {
             expected.insert(format!("{}.{}", made.name, folder.ending));
             expected.insert(format!("{}.card", made.name));

@@ -166,7 +166,12 @@ pub fn values(source: &Source) -> Result<Vec<(String, u64)>, String> {
         named("VERSION_MINOR", version / 100 % 100),
         named("VERSION_PATCH", version % 100),
         named("MOST_BINS", source.length("FitAnswer", "sums")?),
+        named("MOST_CLOSENESS", source.constant("MOST_CLOSENESS")?),
+        named("MOST_PIXELS", source.constant("MOST_PIXELS")?),
         named("MOST_ENTRIES", source.constant("MOST_ENTRIES")?),
+        named("MOST_SWATCH_PIXELS", source.constant("MOST_SWATCH_PIXELS")?),
+        // The program reads one byte more, to see that a text is too long.
+        named("MOST_TEXT", source.constant("MOST_TEXT")? - 1),
         named("MOST_PRINTED", source.constant("PRINTED_MOST")?),
     ])
 }

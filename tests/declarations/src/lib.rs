@@ -15,14 +15,15 @@ use std::fs;
 use std::path::{Path, PathBuf};
 use std::process::Command;
 
-/// The files that export something, or hold what an exported struct is made of, in the order in which they rest on
-/// each other.
-pub const FILES: [&str; 5] = [
+/// The files that export something, or hold what an exported struct is made of, or a limit, in the order in which they
+/// rest on each other.
+pub const FILES: [&str; 6] = [
     "crates/pixel/src/lib.rt",
     "crates/verdict/src/lib.rt",
     "crates/palette/src/lib.rt",
     "crates/swatch/src/lib.rt",
     "crates/kistrovu/src/lib.rt",
+    "crates/card/src/main.rt",
 ];
 
 /// Texts by their place in the repository.
