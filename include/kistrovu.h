@@ -2,22 +2,42 @@
  * Kistrovu: the card of a scanned cloth.
  *
  * A card is the palette of a cloth: the greys and colours found in it, how many pixels each accounts for, and which
- * pixel belongs where. Link libkistrovu.a (`rt staticlib kistrovu` makes it). The promises are proved of the source;
- * they are stated in crates/kistrovu/src/lib.rt. This header is written by hand and is not covered by the proof.
+ * pixel belongs where. Black beside red, which has two entries of one pixel each:
+ *
+ *     const uint8_t pixels[] = {0, 0, 0, 255, 0, 0};
+ *     uint8_t labels[2];
+ *     struct kistrovu_card card = kistrovu_card(pixels, sizeof pixels, 0, labels, sizeof labels);
+ *     if (card.number != KISTROVU_SERVED)
+ *         return (int)card.number;
+ *     for (uint32_t i = 0; i < card.len; i++) {
+ *         const struct kistrovu_entry *entry = &card.entries[i];
+ *         printf("%u of %u %u %u\n", entry->count, entry->red, entry->green, entry->blue);
+ *     }
+ *
+ * Link libkistrovu.a (`rt staticlib kistrovu` makes it for x86-64, tools/install installs it; then `pkg-config --cflags
+ * --libs kistrovu`). Of the C library it needs memcpy and memset. examples/controller.c is a whole program.
  *
  * Every call is served or turned down. Its answer has a number: 0 when it is served, else the ground on which it is
- * turned down (enum kistrovu_ground). A turned-down call hands back zero in every other figure and leaves every lent
- * buffer as it was. A call tests the grounds that concern it in the order of their numbers, and the first that holds
- * is its number. No call asks anything of its caller but what C cannot check:
+ * turned down (enum kistrovu_ground). A call tests the grounds that concern it in the order of their numbers, and the
+ * first that holds is its number. A turned-down answer is safe to read and to pass on: every other figure of it is zero
+ * (but for the line that kistrovu_print_card gives to print), and every lent buffer is as it was, so that what an earlier
+ * call has left there still holds. The same arguments always get the same answer; there is nothing to set up, to free or
+ * to try again. No call asks anything of its caller but what C cannot check:
  *
  *   - a pointer and a length name that many readable places, and writable ones where the pointer is not const;
- *     a pointer is not null, also where the length is 0;
+ *     a pointer is aligned for its type and not null, also where the length is 0;
  *   - a buffer that is written does not overlap another argument;
  *   - a bool is 0 or 1.
  *
  * No call uses the heap, keeps state or touches anything but its arguments, so calls may run on any threads at once.
  * Stack: kistrovu_card takes 510 KB, kistrovu_print_card 591 KB, whatever the image; every other call takes less
- * than 32 KB. Give a thread that makes cards 1 MB.
+ * than 32 KB. The answer, which is handed back by value, has its room with the caller; its size is given below. Give a
+ * thread that makes cards 1 MB.
+ *
+ * In C++ a call hides the struct of its name, so write `struct kistrovu_card card`, as in C.
+ *
+ * The promises are proved of the source and stated in crates/kistrovu/src/lib.rt. This header is written by hand and not
+ * covered by the proof; a test holds it against the source (tests/declarations).
  */
 #ifndef KISTROVU_H
 #define KISTROVU_H
@@ -56,16 +76,16 @@ enum kistrovu_ground {
     KISTROVU_ENTRIES = 11      /* the card as defined has more than 255 entries */
 };
 
-/* The limits: of a histogram, of the closeness, of an image and its card, of a swatch's text and what is printed. */
+/* The limits. A swatch's text has 13 bytes for its header and 13 for each pixel. */
 #define KISTROVU_MOST_BINS 256
 #define KISTROVU_MOST_CLOSENESS 20
 #define KISTROVU_MOST_PIXELS 65536
 #define KISTROVU_MOST_ENTRIES 255
 #define KISTROVU_MOST_SWATCH_PIXELS 16384
-#define KISTROVU_MOST_TEXT (13 * (1 + KISTROVU_MOST_SWATCH_PIXELS)) /* a header and a line for each pixel, 13 bytes each */
+#define KISTROVU_MOST_TEXT (13 * (1 + KISTROVU_MOST_SWATCH_PIXELS))
 #define KISTROVU_MOST_PRINTED 12514
 
-/* ---- the measures of one pixel; no ground concerns it */
+/* ---- the measures of one pixel. No ground concerns it; the number is always 0 */
 
 struct kistrovu_measures {
     uint8_t intensity;  /* 0 to 51 */
@@ -74,17 +94,18 @@ struct kistrovu_measures {
     bool grey;
 };
 
-struct kistrovu_measures_answer {
+struct kistrovu_measures_answer { /* 8 bytes */
     uint32_t number;
     struct kistrovu_measures measures;
 };
 
 struct kistrovu_measures_answer kistrovu_measures(uint8_t red, uint8_t green, uint8_t blue);
 
-/* ---- the monotone fit of a histogram. Grounds 6, 7
- * Bin i lies in a block of sum sums[i] and length lengths[i]; places past the last bin are zero. */
+/* ---- the monotone fit of a histogram, increasing where rising is true, else decreasing. Grounds 6, 7
+ * Bin i lies in a block of sum sums[i] and length lengths[i], so that the fit has sums[i] / lengths[i] there; places past
+ * the last bin are zero. */
 
-struct kistrovu_fit_answer {
+struct kistrovu_fit_answer { /* 2,052 bytes */
     uint32_t number;
     uint32_t sums[KISTROVU_MOST_BINS];
     uint32_t lengths[KISTROVU_MOST_BINS];
@@ -92,25 +113,29 @@ struct kistrovu_fit_answer {
 
 struct kistrovu_fit_answer kistrovu_fit(const uint32_t *histogram, size_t bins, bool rising);
 
-/* ---- the verdict on a histogram: its cost in units of 1/16,777,216 of a bit, and whether it is rejected. Grounds 6, 7, 8 */
+/* ---- the verdict: whether a histogram is too far from the monotone fit. Grounds 6, 7, 8
+ * The cost is in units of 1/16,777,216 of a bit and may be negative; the histogram is rejected when it is 0 or more. Each
+ * step of the closeness takes one bit off the cost, so a larger one rejects less, and modes join more readily. */
 
 struct kistrovu_verdict {
     int64_t cost;
     bool rejected;
 };
 
-struct kistrovu_verdict_answer {
+struct kistrovu_verdict_answer { /* 24 bytes */
     uint32_t number;
     struct kistrovu_verdict verdict;
 };
 
 struct kistrovu_verdict_answer kistrovu_verdict(const uint32_t *histogram, size_t bins, bool rising, uint32_t closeness);
 
-/* ---- the modes of a line of bins, and of a ring. Grounds 6, 7, 8, 10
+/* ---- the modes of a line of bins, and of a ring, whose last bin is beside its first. Grounds 6, 7, 8, 10
  * The separators stand in the first places of the list, and the answer says how many there are; the other places stay
- * as they were. A line's separators rise and end with its last bin. Of a ring's the order is open. */
+ * as they were. A mode runs from its separator to the bin before the next. A line's separators rise and end with its last
+ * bin, which belongs to the last mode: one mode fewer than separators. A ring has as many modes as separators, and the
+ * order in which they are listed is open. */
 
-struct kistrovu_modes_answer {
+struct kistrovu_modes_answer { /* 8 bytes */
     uint32_t number;
     uint32_t separators;
 };
@@ -121,8 +146,9 @@ struct kistrovu_modes_answer kistrovu_ring_modes(const uint32_t *histogram, size
                                                  uint32_t *separators, size_t places);
 
 /* ---- the card of an image. Grounds 4, 5, 8, 9, 11
- * An image is R, G, B for each pixel, three bytes. Each pixel's label is the number of its entry, one byte. The first
- * len places of entries hold the card; the rest are zero. */
+ * An image is R, G, B for each pixel, three bytes. Each pixel's label is the number of its entry from 0 on, one byte, and
+ * there are as many labels as pixels. The first len places of entries hold the card: greys by mode, then colours by hue,
+ * saturation and intensity mode. The rest are zero. */
 
 struct kistrovu_entry {
     uint8_t kind; /* 0 grey, 1 colour */
@@ -132,10 +158,10 @@ struct kistrovu_entry {
     uint8_t red; /* the mean of its pixels, halves up */
     uint8_t green;
     uint8_t blue;
-    uint32_t count;
+    uint32_t count; /* how many pixels have its label; never 0 in the first len places */
 };
 
-struct kistrovu_card {
+struct kistrovu_card { /* 3,068 bytes */
     uint32_t number;
     uint32_t len;
     struct kistrovu_entry entries[KISTROVU_MOST_ENTRIES];
@@ -144,9 +170,11 @@ struct kistrovu_card {
 struct kistrovu_card kistrovu_card(const uint8_t *pixels, size_t bytes, uint32_t closeness, uint8_t *labels, size_t places);
 
 /* ---- what the card program prints for the text of a swatch, at closeness 0. Grounds 1, 2, 3, 11
- * The first len places of bytes hold the text of the card, or the one line with the number; the rest are zero. */
+ * docs/FORMAT.md has both texts. The first len places of bytes hold the text of the card, or the one line with the number
+ * of a swatch that is turned down; the rest are zero, but a full card leaves none, so use len. A text may be cut off
+ * after KISTROVU_MOST_TEXT + 1 bytes: the answer is the same. */
 
-struct kistrovu_printed {
+struct kistrovu_printed { /* 12,524 bytes */
     uint32_t number;
     uint32_t len;
     uint8_t bytes[KISTROVU_MOST_PRINTED];

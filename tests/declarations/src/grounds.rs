@@ -1,38 +1,108 @@
-//! The grounds for turning a call down, as the definitions list them.
+//! The grounds for turning a call down, as the definitions list them, and which of them concern a call.
 
-/// A ground's number is its place in the list, from 1 on.
-#[derive(Clone, Debug, PartialEq, Eq)]
-pub struct Ground {
-    pub words: String,
-}
+use crate::rattle::Source;
+use crate::tokens::tokens;
+use std::collections::BTreeMap;
 
 /// Document 01's list has this many.
-const COUNT: usize = 11;
+const COUNT: u64 = 11;
 
-/// Reads the lines `-- NUMBER. 'words'` of the definitions, and holds the numbers against those that are defined.
-pub fn read(text: &str) -> Result<Vec<Ground>, String> {
-    let quoted: Vec<(usize, Ground)> = text.lines().filter_map(quoted).collect();
-    let numbers: Vec<usize> = quoted.iter().map(|(number, _)| *number).collect();
-    let defined: Vec<usize> = text.lines().filter_map(defined).collect();
-    let expected: Vec<usize> = (1..=COUNT).collect();
-    if numbers != expected || defined != expected {
-        return Err(format!(
-            "grounds {numbers:?} are listed, {defined:?} defined"
-        ));
+/// The grounds' words in order, from number 1 on, and for each call the numbers of those that concern it.
+#[derive(Clone, Debug, PartialEq, Eq)]
+pub struct Grounds {
+    pub words: Vec<String>,
+    pub calls: BTreeMap<String, Vec<u64>>,
+}
+
+/// The definition of each call's number. Those of a call that no ground concerns have none.
+const NUMBERS: [(&str, Option<&str>); 8] = [
+    ("kistrovu_version", None),
+    ("kistrovu_measures", None),
+    ("kistrovu_fit", Some("fitNumber")),
+    ("kistrovu_verdict", Some("verdictNumber")),
+    ("kistrovu_line_modes", Some("modesNumber")),
+    ("kistrovu_ring_modes", Some("modesNumber")),
+    ("kistrovu_card", Some("cardNumber")),
+    ("kistrovu_print_card", Some("textNumber")),
+];
+
+impl Grounds {
+    /// Reads the lines `-- NUMBER. 'words'`, `name .. = record { number = NUMBER; ..` and `name .. = firstGround (..)`.
+    pub fn read(text: &str) -> Result<Self, String> {
+        let quoted: Vec<(u64, String)> = text.lines().filter_map(quoted).collect();
+        let numbers: Vec<u64> = quoted.iter().map(|(number, _)| *number).collect();
+        let defined: Vec<(String, u64)> = text.lines().filter_map(defined).collect();
+        let found: Vec<u64> = defined.iter().map(|(_, number)| *number).collect();
+        let expected: Vec<u64> = (1..=COUNT).collect();
+        if numbers != expected || found != expected {
+            return Err(format!("grounds {numbers:?} are listed, {found:?} defined"));
+        }
+        let names: BTreeMap<String, u64> = defined.into_iter().collect();
+        let calls = NUMBERS.iter().map(|(call, name)| {
+            let found = name.map_or(Ok(Vec::new()), |name| sequence(text, name, &names));
+            Ok((call.to_string(), found?))
+        });
+        Ok(Grounds {
+            words: quoted.into_iter().map(|(_, words)| words).collect(),
+            calls: calls.collect::<Result<_, String>>()?,
+        })
     }
-    Ok(quoted.into_iter().map(|(_, ground)| ground).collect())
+
+    /// Every call's declaration comes after a comment that says `Grounds 6, 7`, or that no ground concerns it.
+    pub fn are_said(&self, source: &Source, text: &str) -> Result<(), String> {
+        for call in &source.calls {
+            let name = &call.name;
+            let expected = self.calls.get(name);
+            let expected = expected.ok_or(format!("the grounds of {name} are not known"))?;
+            let found = said(text, name).ok_or(format!("{name} is not declared"))?;
+            if found != *expected {
+                return Err(format!("the grounds of {name} are said to be {found:?}"));
+            }
+        }
+        Ok(())
+    }
 }
 
 /// In a comment in C the words begin small, and have no sign that is not ASCII.
-fn quoted(line: &str) -> Option<(usize, Ground)> {
+fn quoted(line: &str) -> Option<(u64, String)> {
     let (number, words) = line.strip_prefix("-- ")?.split_once(". '")?;
     let words = words.strip_suffix('\'')?.replace('×', "x");
     let (first, rest) = words.split_at_checked(1)?;
-    let words = first.to_lowercase() + rest;
-    Some((number.parse().ok()?, Ground { words }))
+    Some((number.parse().ok()?, first.to_lowercase() + rest))
 }
 
-fn defined(line: &str) -> Option<usize> {
-    let (_, rest) = line.split_once("record { number = ")?;
-    rest.split_once(';')?.0.parse().ok()
+fn defined(line: &str) -> Option<(String, u64)> {
+    let (name, rest) = line.split_once(" = record { number = ")?;
+    let name = name.split(' ').next()?;
+    let number = rest.split_once(';')?.0;
+    Some((name.to_string(), number.parse().ok()?))
+}
+
+/// The grounds in the definition of a number.
+fn sequence(text: &str, name: &str, names: &BTreeMap<String, u64>) -> Result<Vec<u64>, String> {
+    let mut lines = text.lines().filter_map(|line| {
+        let (left, right) = line.split_once(" = firstGround (")?;
+        (left.split(' ').next() == Some(name)).then_some(right)
+    });
+    let right = lines.next().ok_or(format!("{name} is not defined"))?;
+    let words = tokens(right);
+    Ok(words
+        .iter()
+        .filter_map(|word| names.get(word))
+        .copied()
+        .collect())
+}
+
+/// The numbers in the last comment before a call's declaration that says something of grounds. An example may name the
+/// call too, before it is declared.
+fn said(text: &str, call: &str) -> Option<Vec<u64>> {
+    let (before, _) = text.rsplit_once(&format!(" {call}("))?;
+    let listed = before.rfind("Grounds ");
+    let none = before.rfind("o ground concerns it");
+    let Some(start) = listed.filter(|_| none < listed) else {
+        return Some(Vec::new());
+    };
+    let words = tokens(&before[start + "Grounds ".len()..]);
+    let numbers = words.iter().filter(|word| *word != ",");
+    Some(numbers.map_while(|word| word.parse().ok()).collect())
 }

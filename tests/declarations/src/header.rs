@@ -1,7 +1,7 @@
 //! The other direction: what the header has must be in the source, so that nothing in it goes unchecked.
 
 use crate::c::struct_name;
-use crate::grounds::Ground;
+use crate::grounds::Grounds;
 use crate::rattle::{Source, Struct};
 use crate::tokens::{tokens, without_comments, Cursor};
 use std::collections::BTreeSet;
@@ -13,6 +13,7 @@ pub struct Header {
     pub structs: Vec<(String, Vec<String>)>,
     pub calls: Vec<String>,
     pub grounds: Vec<Enumerator>,
+    pub sizes: Vec<(String, u64)>,
 }
 
 #[derive(Clone, Debug, PartialEq, Eq)]
@@ -32,6 +33,7 @@ impl Header {
         let mut header = Header {
             macros: macros(&bare),
             grounds: enumerators(text)?,
+            sizes: text.lines().filter_map(size).collect(),
             ..Header::default()
         };
         let mut cursor = Cursor::new(&found);
@@ -53,7 +55,7 @@ impl Header {
         &self,
         source: &Source,
         values: &[(String, u64)],
-        grounds: &[Ground],
+        grounds: &Grounds,
     ) -> Result<(), String> {
         let calls = source.calls.iter().map(|call| call.name.clone());
         same("calls", &self.calls, calls)?;
@@ -61,18 +63,21 @@ impl Header {
         same("structs", &self.structs, structs.map(expected_struct))?;
         let values = values.iter().map(|(name, _)| name.clone());
         same("macros", &self.macros, values)?;
-        self.grounds_agree(grounds)
+        let answers = source.structs.iter().filter(|made| source.is_answer(made));
+        let sizes = answers.map(|made| (struct_name(&made.name), source.layout(made).size));
+        same("sizes in comments", &self.sizes, sizes)?;
+        self.grounds_agree(&grounds.words)
     }
 
     /// One enumerator for each number from 0 on, in order, and beside each ground its words.
-    fn grounds_agree(&self, grounds: &[Ground]) -> Result<(), String> {
+    fn grounds_agree(&self, words: &[String]) -> Result<(), String> {
         let numbers: Vec<u64> = self.grounds.iter().map(|found| found.number).collect();
-        let expected: Vec<u64> = (0..=grounds.len() as u64).collect();
+        let expected: Vec<u64> = (0..=words.len() as u64).collect();
         if numbers != expected {
             return Err(format!("the numbers of the grounds are {numbers:?}"));
         }
-        let named = self.grounds.iter().skip(1).zip(grounds);
-        match named.into_iter().find(|(f, g)| f.words != g.words) {
+        let mut named = self.grounds.iter().skip(1).zip(words);
+        match named.find(|(found, words)| found.words != **words) {
             Some((found, _)) => Err(format!("the words of {} are others", found.name)),
             None => Ok(()),
         }
@@ -131,6 +136,13 @@ fn fields(cursor: &mut Cursor) -> Result<Vec<String>, String> {
         }
     }
     Ok(fields)
+}
+
+/// A line `struct NAME { /* SIZE bytes */`, as those of answers are.
+fn size(line: &str) -> Option<(String, u64)> {
+    let (name, comment) = line.strip_prefix("struct ")?.split_once(" { /* ")?;
+    let figure = comment.strip_suffix(" bytes */")?.replace(',', "");
+    Some((name.to_string(), figure.parse().ok()?))
 }
 
 /// The lines `NAME = NUMBER, /* words */` of the grounds.

@@ -9,6 +9,7 @@ pub mod layout;
 pub mod rattle;
 pub mod tokens;
 
+use grounds::Grounds;
 use header::{values, Header};
 use rattle::Source;
 use std::fs;
@@ -75,7 +76,8 @@ impl Texts {
         if is_installed("g++") {
             compile("g++", &["-std=c++11", "checks.cc"], folder)?;
         }
-        let grounds = grounds::read(&self.grounds)?;
+        let grounds = Grounds::read(&self.grounds)?;
+        grounds.are_said(&source, &self.header)?;
         Header::read(&self.header)?.agrees(&source, &values, &grounds)
     }
 }

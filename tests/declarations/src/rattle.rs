@@ -231,11 +231,16 @@ impl Source {
             .ok_or(format!("{name} has no array {field}"))
     }
 
-    /// Whether a call hands the struct back, or another struct holds it.
-    pub fn is_used(&self, made: &Struct) -> bool {
+    /// Whether a call hands the struct back.
+    pub fn is_answer(&self, made: &Struct) -> bool {
+        let item = Item::Struct(made.name.clone());
+        self.calls.iter().any(|call| call.answer == item)
+    }
+
+    /// Whether another struct holds it.
+    pub fn is_held(&self, made: &Struct) -> bool {
         let item = Item::Struct(made.name.clone());
         let mut fields = self.structs.iter().flat_map(|other| &other.fields);
-        let held = fields.any(|field| field.item == item);
-        held || self.calls.iter().any(|call| call.answer == item)
+        fields.any(|field| field.item == item)
     }
 }

@@ -76,6 +76,11 @@ fn wrong_structs_are_refused() {
             "\"alpha\"",
         ),
         (
+            "{ /* 3,068 bytes */",
+            "{ /* 3,060 bytes */",
+            "sizes in comments",
+        ),
+        (
             "struct kistrovu_printed {",
             "struct kistrovu_text {",
             "struct kistrovu_printed",
@@ -177,6 +182,16 @@ fn wrong_grounds_are_refused() {
             "closeness is above 21 */",
             "the words of KISTROVU_CLOSENESS",
         ),
+        (
+            "Grounds 4, 5, 8, 9, 11\n",
+            "Grounds 4, 5, 8, 11\n",
+            "the grounds of kistrovu_card are said to be [4, 5, 8, 11]",
+        ),
+        (
+            "No ground concerns it; the number",
+            "Grounds 1; the number",
+            "the grounds of kistrovu_measures are said to be [1]",
+        ),
     ];
     refused("grounds", &edits);
 }
@@ -193,6 +208,11 @@ fn wrong_macros_are_refused() {
             "#define KISTROVU_VERSION_MINOR 0",
             "#define KISTROVU_VERSION_MINOR 1",
             "KISTROVU_VERSION_MINOR",
+        ),
+        (
+            "#define KISTROVU_MOST_TEXT (13 *",
+            "#define KISTROVU_MOST_TEXT (12 *",
+            "KISTROVU_MOST_TEXT",
         ),
         (
             "#define KISTROVU_MOST_BINS 256\n",

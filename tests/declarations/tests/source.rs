@@ -1,8 +1,9 @@
 //! The source is read whole and strictly, and a source that has changed is seen in the header.
 
+use declarations::grounds::Grounds;
 use declarations::rattle::Source;
 use declarations::tokens::tokens;
-use declarations::{edited, grounds, root, Texts, FILES};
+use declarations::{edited, read, root, Texts, FILES};
 use std::fs;
 use std::path::Path;
 
@@ -17,8 +18,8 @@ fn all_that_is_marked_is_read() {
     let total = |mark| texts.rattle.iter().map(|(_, text)| marks(text, mark)).sum();
     assert_eq!(source.structs.len(), total("#[repr(C)]"));
     assert_eq!(source.calls.len(), total("#[no_mangle]"));
-    let unused = source.structs.iter().find(|made| !source.is_used(made));
-    assert_eq!(unused, None);
+    let used = |made| source.is_answer(made) || source.is_held(made);
+    assert_eq!(source.structs.iter().find(|made| !used(made)), None);
 }
 
 #[test]
@@ -140,14 +141,28 @@ fn a_changed_source_is_seen() {
 #[test]
 fn wrong_lists_of_grounds_are_refused() {
     let right = Texts::of_repository().grounds;
-    assert!(grounds::read(&right).is_ok());
+    assert!(Grounds::read(&right).is_ok());
     let wrong = [
         edited(&right, "-- 9. '", "-- 10. '"),
         edited(&right, "number = 9;", "number = 8;"),
+        edited(&right, "textNumber text = ", "wordNumber text = "),
         String::new(),
     ];
     for text in wrong {
-        assert!(grounds::read(&text).is_err());
+        assert!(Grounds::read(&text).is_err());
+    }
+}
+
+#[test]
+fn a_changed_sequence_of_grounds_is_seen() {
+    let texts = Texts::of_repository();
+    let source = texts.source().expect("the source can be read");
+    let comments = read("crates/kistrovu/src/lib.rt");
+    let fewer = edited(&texts.grounds, " ∷ fewPlaces h places ∷ [])", " ∷ [])");
+    for text in [&texts.header, &comments] {
+        let said = |grounds: &str| Grounds::read(grounds)?.are_said(&source, text);
+        assert_eq!(said(&texts.grounds), Ok(()));
+        assert!(said(&fewer).is_err_and(|wrong| wrong.contains("kistrovu_line_modes")));
     }
 }
 
