@@ -1,6 +1,6 @@
 //! Checks in C and C++, written from the Rattle source alone. A compiler that takes them has seen the header agree.
 
-use crate::rattle::{Argument, Call, Field, Item, Source, Struct};
+use super::rattle::{Argument, Call, Field, Item, Source, Struct};
 use std::iter::once;
 
 /// The name in C of a struct of the source.

@@ -1,7 +1,7 @@
 //! The grounds for turning a call down, as the definitions list them, and which of them concern a call.
 
-use crate::rattle::Source;
-use crate::tokens::tokens;
+use super::rattle::Source;
+use super::tokens::tokens;
 use std::collections::BTreeMap;
 
 /// Document 01's list has this many.

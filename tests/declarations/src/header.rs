@@ -1,10 +1,10 @@
 //! The other direction: what the header has must be in the source, so that nothing in it goes unchecked.
 
-use crate::c::struct_name;
-use crate::grounds::Grounds;
-use crate::rattle::{Source, Struct};
-use crate::tokens::{tokens, without_comments, Cursor};
-use std::collections::BTreeSet;
+use super::c::struct_name;
+use super::grounds::Grounds;
+use super::rattle::{Source, Struct};
+use super::same;
+use super::tokens::{tokens, without_comments, Cursor};
 
 /// What a scan of the header finds, in its order.
 #[derive(Clone, Debug, Default, PartialEq, Eq)]
@@ -87,26 +87,6 @@ impl Header {
 fn expected_struct(made: &Struct) -> (String, Vec<String>) {
     let fields = made.fields.iter().map(|field| field.name.clone());
     (struct_name(&made.name), fields.collect())
-}
-
-/// The same things, whatever the order; none stands twice.
-fn same<T: Ord + Clone + std::fmt::Debug>(
-    what: &str,
-    found: &[T],
-    expected: impl Iterator<Item = T>,
-) -> Result<(), String> {
-    let expected: BTreeSet<T> = expected.collect();
-    let set: BTreeSet<T> = found.iter().cloned().collect();
-    if set.len() < found.len() {
-        return Err(format!("{what}: one is declared twice"));
-    }
-    let differ: Vec<&T> = set.symmetric_difference(&expected).collect();
-    match differ.is_empty() {
-        true => Ok(()),
-        false => Err(format!(
-            "{what}: only in the header or the source: {differ:?}"
-        )),
-    }
 }
 
 /// The names that are defined, but for the guard.

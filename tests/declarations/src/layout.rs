@@ -1,7 +1,7 @@
 //! C's layout rule: fields in order, each at the next place that its alignment divides, and the whole filled up to its
 //! own alignment, which is the largest among its fields.
 
-use crate::rattle::{Field, Item, Source, Struct};
+use super::rattle::{Field, Item, Source, Struct};
 
 #[derive(Clone, Copy, Debug, PartialEq, Eq)]
 pub struct Layout {

@@ -7,11 +7,15 @@ pub mod grounds;
 pub mod header;
 pub mod layout;
 pub mod rattle;
+pub mod rust;
 pub mod tokens;
 
 use grounds::Grounds;
 use header::{values, Header};
 use rattle::Source;
+use rust::Raw;
+use std::collections::BTreeSet;
+use std::fmt::Debug;
 use std::fs;
 use std::path::{Path, PathBuf};
 use std::process::Command;
@@ -27,12 +31,18 @@ pub const FILES: [&str; 6] = [
     "crates/card/src/main.rt",
 ];
 
-/// Texts by their place in the repository.
+/// The definitions of the grounds, and the declarations that are held against all of these.
+pub const GROUNDS: &str = "crates/kistrovu/specs/Grounds.antt";
+pub const HEADER: &str = "include/kistrovu.h";
+pub const RAW: &str = "bindings/rust/src/raw.rs";
+
+/// The texts of these files.
 #[derive(Clone)]
 pub struct Texts {
     pub rattle: Vec<(&'static str, String)>,
     pub grounds: String,
     pub header: String,
+    pub raw: String,
 }
 
 pub fn root() -> PathBuf {
@@ -48,8 +58,9 @@ impl Texts {
     pub fn of_repository() -> Self {
         Texts {
             rattle: FILES.map(|name| (name, read(name))).to_vec(),
-            grounds: read("crates/kistrovu/specs/Grounds.antt"),
-            header: read("include/kistrovu.h"),
+            grounds: read(GROUNDS),
+            header: read(HEADER),
+            raw: read(RAW),
         }
     }
 
@@ -68,17 +79,54 @@ impl Texts {
         write(folder, "kistrovu.h", &self.header);
         write(folder, "checks.c", &c::checks(&source, &values));
         write(folder, "checks.cc", &c::linkage_checks(&source));
-        compile(
-            "gcc",
-            &["-std=c11", "-Wstrict-prototypes", "checks.c"],
-            folder,
-        )?;
+        compile(folder, "gcc -std=c11 -Wstrict-prototypes", "checks.c")?;
         if is_installed("g++") {
-            compile("g++", &["-std=c++11", "checks.cc"], folder)?;
+            compile(folder, "g++ -std=c++11", "checks.cc")?;
         }
         let grounds = Grounds::read(&self.grounds)?;
         grounds.are_said(&source, &self.header)?;
         Header::read(&self.header)?.agrees(&source, &values, &grounds)
+    }
+
+    /// The checks of the Rust declarations, with the constants that are declared there.
+    pub fn raw_checks(&self) -> Result<String, String> {
+        let source = self.source()?;
+        let declared = Raw::read(&self.raw)?.values(&values(&source)?)?;
+        Ok(rust::checks(&source, &declared))
+    }
+
+    /// Does with the Rust declarations what `check_header` does with the header.
+    pub fn check_raw(&self, folder: &Path) -> Result<(), String> {
+        let source = self.source()?;
+        let checks = self.raw_checks()?;
+        write(folder, "raw.rs", &self.raw);
+        write(folder, "checks.rs", &format!("pub mod raw;\n{checks}"));
+        run(
+            folder,
+            "rustc --edition=2021 --crate-type=lib --emit=metadata checks.rs",
+        )?;
+        Grounds::read(&self.grounds)?.are_said(&source, &self.raw)?;
+        Raw::read(&self.raw)?.agrees(&source)
+    }
+}
+
+/// The same things, whatever the order; none stands twice.
+fn same<T: Ord + Clone + Debug>(
+    what: &str,
+    found: &[T],
+    expected: impl Iterator<Item = T>,
+) -> Result<(), String> {
+    let expected: BTreeSet<T> = expected.collect();
+    let set: BTreeSet<T> = found.iter().cloned().collect();
+    if set.len() < found.len() {
+        return Err(format!("{what}: one is declared twice"));
+    }
+    let differ: Vec<&T> = set.symmetric_difference(&expected).collect();
+    match differ.is_empty() {
+        true => Ok(()),
+        false => Err(format!(
+            "{what}: only in the declarations or the source: {differ:?}"
+        )),
     }
 }
 
@@ -92,11 +140,18 @@ pub fn is_installed(program: &str) -> bool {
     Command::new(program).arg("--version").output().is_ok()
 }
 
-fn compile(program: &str, arguments: &[&str], folder: &Path) -> Result<(), String> {
+/// Compiles a file in C or C++ with nothing let pass.
+fn compile(folder: &Path, compiler: &str, file: &str) -> Result<(), String> {
+    let words = "-Wall -Wextra -Werror -pedantic -c -o checks.o";
+    run(folder, &format!("{compiler} {words} {file}"))
+}
+
+/// Runs a command in a folder; what it complains of is the error.
+fn run(folder: &Path, command: &str) -> Result<(), String> {
+    let mut words = command.split(' ');
+    let program = words.next().unwrap_or_default();
     let output = Command::new(program)
-        .args(["-Wall", "-Wextra", "-Werror", "-pedantic"])
-        .args(["-c", "-o", "checks.o"])
-        .args(arguments)
+        .args(words)
         .current_dir(folder)
         .output()
         .unwrap_or_else(|wrong| panic!("{program}: {wrong}"));

@@ -1,7 +1,7 @@
 //! What the Rattle source exports: its calls, the structs that they hand back, and the constants that say how long
 //! arrays are. Reading is strict: whatever is marked as exported is understood whole, or it is an error.
 
-use crate::tokens::{tokens, without_comments, Cursor};
+use super::tokens::{tokens, without_comments, Cursor};
 use std::collections::BTreeMap;
 
 #[derive(Clone, Debug, PartialEq, Eq)]

@@ -147,7 +147,7 @@ fn calls_left_over_are_refused() {
         (
             "uint32_t kistrovu_version(void);",
             "uint32_t kistrovu_version(void);\nuint32_t kistrovu_more(void);",
-            "calls: only in the header or the source: [\"kistrovu_more\"]",
+            "calls: only in the declarations or the source: [\"kistrovu_more\"]",
         ),
         (
             "uint32_t kistrovu_version(void);",
@@ -217,7 +217,7 @@ fn wrong_macros_are_refused() {
         (
             "#define KISTROVU_MOST_BINS 256\n",
             "#define KISTROVU_MOST_BINS 256\n#define KISTROVU_MOST_MORE 1\n",
-            "macros: only in the header or the source: [\"KISTROVU_MOST_MORE\"]",
+            "macros: only in the declarations or the source: [\"KISTROVU_MOST_MORE\"]",
         ),
     ];
     refused("macros", &edits);
