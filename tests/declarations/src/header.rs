@@ -39,7 +39,7 @@ impl Header {
         let mut cursor = Cursor::new(&found);
         while !cursor.is_at_end() {
             let named = cursor.passes("struct");
-            let name = cursor.next();
+            let name = cursor.take();
             if named && cursor.passes("{") {
                 let fields = fields(&mut cursor)?;
                 header.structs.push((name.to_string(), fields));
@@ -61,12 +61,13 @@ impl Header {
         same("calls", &self.calls, calls)?;
         let structs = source.structs.iter();
         same("structs", &self.structs, structs.map(expected_struct))?;
-        let values = values.iter().map(|(name, _)| name.clone());
-        same("macros", &self.macros, values)?;
+        let names = values.iter().map(|(name, _)| name.clone());
+        same("macros", &self.macros, names)?;
         let answers = source.structs.iter().filter(|made| source.is_answer(made));
         let sizes = answers.map(|made| (struct_name(&made.name), source.layout(made).size));
         same("sizes in comments", &self.sizes, sizes)?;
-        self.grounds_agree(&grounds.words)
+        self.grounds_agree(&grounds.words)?;
+        figures_agree(&grounds.words, values)
     }
 
     /// One enumerator for each number from 0 on, in order, and beside each ground its words.
@@ -82,6 +83,27 @@ impl Header {
             None => Ok(()),
         }
     }
+}
+
+/// The grounds whose words have the figure of a limit.
+const FIGURES: [(usize, &str); 5] = [
+    (2, "KISTROVU_MOST_SWATCH_PIXELS"),
+    (5, "KISTROVU_MOST_PIXELS"),
+    (6, "KISTROVU_MOST_BINS"),
+    (8, "KISTROVU_MOST_CLOSENESS"),
+    (11, "KISTROVU_MOST_ENTRIES"),
+];
+
+fn figures_agree(words: &[String], values: &[(String, u64)]) -> Result<(), String> {
+    for (number, name) in FIGURES {
+        let value = values.iter().find(|(other, _)| other == name);
+        let (_, value) = value.ok_or(format!("{name} is not known"))?;
+        let figures = tokens(&words[number - 1].replace(',', ""));
+        if !figures.contains(&value.to_string()) {
+            return Err(format!("the words of ground {number} have not {name}"));
+        }
+    }
+    Ok(())
 }
 
 fn expected_struct(made: &Struct) -> (String, Vec<String>) {
@@ -104,7 +126,7 @@ fn fields(cursor: &mut Cursor) -> Result<Vec<String>, String> {
     let mut fields = Vec::new();
     let mut last = "";
     while !cursor.passes("}") {
-        match cursor.next() {
+        match cursor.take() {
             "" => return Err("a struct has no end".to_string()),
             ";" => fields.push(last.to_string()),
             "[" => {

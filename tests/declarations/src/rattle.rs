@@ -79,7 +79,7 @@ impl Source {
             } else if cursor.passes("const") {
                 self.read_constant(cursor)?;
             } else {
-                cursor.next();
+                cursor.take();
             }
         }
         Ok(())
@@ -205,7 +205,7 @@ impl Source {
     }
 
     fn read_factor(&self, cursor: &mut Cursor) -> Result<u64, String> {
-        let token = cursor.next();
+        let token = cursor.take();
         let number = token.parse().ok();
         number
             .or(self.constants.get(token).copied())

@@ -112,7 +112,7 @@ impl Raw {
             } else if cursor.passes("pub const") {
                 raw.constants.push(cursor.word()?);
             } else {
-                cursor.next();
+                cursor.take();
             }
         }
         Ok(raw)

@@ -42,7 +42,7 @@ impl<'a> Cursor<'a> {
         self.tokens.get(self.at).map_or("", String::as_str)
     }
 
-    pub fn next(&mut self) -> &'a str {
+    pub fn take(&mut self) -> &'a str {
         let token = self.peek();
         self.at += 1;
         token
@@ -79,7 +79,7 @@ impl<'a> Cursor<'a> {
 
     /// A word, which does not begin with a digit.
     pub fn word(&mut self) -> Result<String, String> {
-        let token = self.next();
+        let token = self.take();
         match token.chars().next() {
             Some(first) if first.is_alphabetic() || first == '_' => Ok(token.to_string()),
             _ => Err(format!("a name is expected where `{token}` stands")),

@@ -1,35 +1,18 @@
 //! The header agrees with the source, and wrong headers are refused, each for what is wrong in it.
 
-use declarations::{edited, is_installed, Texts};
-use std::fs;
-use std::path::{Path, PathBuf};
+mod common;
 
-/// What is altered, what it becomes, and a part of what must be said about it.
-type Wrong = (&'static str, &'static str, &'static str);
+use common::Declarations;
+use declarations::{is_installed, Texts};
 
-/// An empty folder below the build's own.
-fn folder(name: &str) -> PathBuf {
-    let folder = Path::new(env!("CARGO_TARGET_TMPDIR")).join(name);
-    let _ = fs::remove_dir_all(&folder);
-    fs::create_dir_all(&folder).expect("a folder can be made");
-    folder
-}
-
-fn refused(name: &str, edits: &[Wrong]) {
-    let right = Texts::of_repository();
-    let folder = folder(name);
-    for (from, to, said) in edits {
-        let mut wrong = right.clone();
-        wrong.header = edited(&right.header, from, to);
-        let found = wrong.check_header(&folder).expect_err(to);
-        assert!(found.contains(said), "`{to}` is refused, but with: {found}");
-    }
-}
+const HEADER: Declarations = Declarations {
+    text: |texts| &mut texts.header,
+    check: Texts::check_header,
+};
 
 #[test]
 fn the_header_agrees() {
-    let checked = Texts::of_repository().check_header(&folder("header"));
-    assert_eq!(checked, Ok(()));
+    HEADER.agree("header");
     if !is_installed("g++") {
         println!("g++ is not installed: the header was not tried in C++");
     }
@@ -91,7 +74,7 @@ fn wrong_structs_are_refused() {
             "kistrovu_more",
         ),
     ];
-    refused("structs", &edits);
+    HEADER.refused("structs", &edits);
 }
 
 #[test]
@@ -138,7 +121,7 @@ fn wrong_calls_are_refused() {
             "kistrovu_ring_modes",
         ),
     ];
-    refused("calls", &edits);
+    HEADER.refused("calls", &edits);
 }
 
 #[test]
@@ -155,7 +138,7 @@ fn calls_left_over_are_refused() {
             "calls: one is declared twice",
         ),
     ];
-    refused("left-over", &edits);
+    HEADER.refused("left-over", &edits);
 }
 
 #[test]
@@ -193,7 +176,7 @@ fn wrong_grounds_are_refused() {
             "the grounds of kistrovu_measures are said to be [1]",
         ),
     ];
-    refused("grounds", &edits);
+    HEADER.refused("grounds", &edits);
 }
 
 #[test]
@@ -220,15 +203,15 @@ fn wrong_macros_are_refused() {
             "macros: only in the declarations or the source: [\"KISTROVU_MOST_MORE\"]",
         ),
     ];
-    refused("macros", &edits);
+    HEADER.refused("macros", &edits);
 }
 
 #[test]
 fn wrong_guards_are_refused() {
     let edit = ("#ifndef KISTROVU_H\n", "#if 1\n", "redefinition");
-    refused("guards", &[edit]);
+    HEADER.refused("guards", &[edit]);
     if is_installed("g++") {
         let edit = ("extern \"C\" {", "extern \"C++\" {", "linkage");
-        refused("linkage", &[edit]);
+        HEADER.refused("linkage", &[edit]);
     }
 }

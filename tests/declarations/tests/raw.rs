@@ -1,40 +1,23 @@
 //! The Rust declarations agree with the source, or this does not compile; and wrong ones are refused, each for what is
 //! wrong in it.
 
-use declarations::{edited, Texts};
+mod common;
+
+use common::Declarations;
+use declarations::Texts;
 use kistrovu::raw;
-use std::fs;
-use std::path::{Path, PathBuf};
 
 // Everything in it is checked by the compiler.
 include!(concat!(env!("OUT_DIR"), "/raw_checks.rs"));
 
-/// What is altered, what it becomes, and a part of what must be said about it.
-type Wrong = (&'static str, &'static str, &'static str);
-
-/// An empty folder below the build's own.
-fn folder(name: &str) -> PathBuf {
-    let folder = Path::new(env!("CARGO_TARGET_TMPDIR")).join(name);
-    let _ = fs::remove_dir_all(&folder);
-    fs::create_dir_all(&folder).expect("a folder can be made");
-    folder
-}
-
-fn refused(name: &str, edits: &[Wrong]) {
-    let right = Texts::of_repository();
-    let folder = folder(name);
-    for (from, to, said) in edits {
-        let mut wrong = right.clone();
-        wrong.raw = edited(&right.raw, from, to);
-        let found = wrong.check_raw(&folder).expect_err(to);
-        assert!(found.contains(said), "`{to}` is refused, but with: {found}");
-    }
-}
+const RAW: Declarations = Declarations {
+    text: |texts| &mut texts.raw,
+    check: Texts::check_raw,
+};
 
 #[test]
 fn the_declarations_agree() {
-    let checked = Texts::of_repository().check_raw(&folder("raw"));
-    assert_eq!(checked, Ok(()));
+    RAW.agree("raw");
 }
 
 #[test]
@@ -65,37 +48,31 @@ fn wrong_structs_are_refused() {
             "[\"More\"]",
         ),
     ];
-    refused("raw-structs", &edits);
+    RAW.refused("raw-structs", &edits);
 }
 
-fn wrong_throughout(name: &str, raw: String) -> String {
-    let mut texts = Texts::of_repository();
-    assert_ne!(texts.raw, raw);
-    texts.raw = raw;
-    texts.check_raw(&folder(name)).expect_err(name)
-}
-
+/// The two lists of a fit are of one type, so that only their places tell them apart.
 #[test]
 fn wrong_places_are_refused() {
-    let raw = Texts::of_repository().raw;
-    let swapped = raw.replace("pub sums:", "pub sizes:");
-    let swapped = swapped.replace("pub lengths:", "pub sums:");
-    let swapped = swapped.replace("pub sizes:", "pub lengths:");
-    let found = wrong_throughout("raw-places", swapped);
-    assert!(found.contains("offset_of!(raw::FitAnswer, sums)"));
+    let lists = "    /// For each bin the sum of its block.
+    pub sums: [u32; MOST_BINS],
+    /// For each bin the length of its block.
+    pub lengths: [u32; MOST_BINS],
+";
+    let swapped = "    pub lengths: [u32; MOST_BINS],\n    pub sums: [u32; MOST_BINS],\n";
+    let said = "offset_of!(raw::FitAnswer, sums)";
+    RAW.refused("raw-places", &[(lists, swapped, said)]);
 }
 
-/// A layout that the compiler chooses may be right by chance, so it is refused by the scan as well.
+/// A layout that the compiler chooses may be right by chance, so it is refused by the scan.
 #[test]
 fn a_layout_that_is_not_promised_is_refused() {
-    let raw = Texts::of_repository().raw;
-    let unmarked = edited(
-        &raw,
+    let edit = (
         "#[repr(C)]\n#[derive(Clone, Copy, Debug, PartialEq, Eq)]\npub struct ModesAnswer",
         "#[derive(Clone, Copy, Debug, PartialEq, Eq)]\npub struct ModesAnswer",
+        "ModesAnswer is not repr(C)",
     );
-    let found = wrong_throughout("raw-unmarked", unmarked);
-    assert!(found.contains("ModesAnswer is not repr(C)"), "{found}");
+    RAW.refused("raw-unmarked", &[edit]);
 }
 
 #[test]
@@ -138,7 +115,7 @@ fn wrong_calls_are_refused() {
             "the grounds of kistrovu_card",
         ),
     ];
-    refused("raw-calls", &edits);
+    RAW.refused("raw-calls", &edits);
 }
 
 #[test]
@@ -160,5 +137,5 @@ fn wrong_constants_are_refused() {
             "the constant MORE is not known",
         ),
     ];
-    refused("raw-constants", &edits);
+    RAW.refused("raw-constants", &edits);
 }

@@ -138,6 +138,26 @@ fn a_changed_source_is_seen() {
     }
 }
 
+/// A limit that is changed in the source and in its macro, but not in the words of its ground.
+#[test]
+fn a_figure_in_words_is_held_to_its_macro() {
+    let mut texts = Texts::of_repository();
+    let verdict = texts
+        .rattle
+        .iter_mut()
+        .find(|(_, text)| text.contains("const MOST_CLOSENESS"));
+    let (_, text) = verdict.expect("the closeness has a limit");
+    *text = edited(text, "MOST_CLOSENESS: u32 = 20", "MOST_CLOSENESS: u32 = 19");
+    texts.header = edited(&texts.header, "MOST_CLOSENESS 20", "MOST_CLOSENESS 19");
+    let folder = Path::new(env!("CARGO_TARGET_TMPDIR")).join("figures");
+    fs::create_dir_all(&folder).expect("a folder can be made");
+    let found = texts.check_header(&folder).expect_err("19");
+    assert_eq!(
+        found,
+        "the words of ground 8 have not KISTROVU_MOST_CLOSENESS"
+    );
+}
+
 #[test]
 fn wrong_lists_of_grounds_are_refused() {
     let right = Texts::of_repository().grounds;
