@@ -11,27 +11,14 @@
 //! line; at a difference the group ends with the input and both answers. The last line is the number of groups passed
 //! and failed, and the exit code is 1 if one failed.
 
-mod card_comparison;
-mod card_groups;
-mod card_shapes;
-mod comparison;
-mod damage;
-mod groups;
-mod mode_groups;
-mod mode_shapes;
-mod mode_ties;
-mod shapes;
-mod stored;
-mod text_groups;
-mod ties;
-
-use card_groups::CARDS;
 use cloths::random::Random;
-use comparison::{Calls, Difference, Form, Tally};
-use groups::{Source, GROUPS};
-use mode_groups::{ModesSource, BOTH, LINES, RINGS};
+use compare::card_groups::CARDS;
+use compare::comparison::{self, Calls, Difference, Form, Tally};
+use compare::groups::{Source, GROUPS};
+use compare::mode_groups::{ModesSource, BOTH, LINES, RINGS};
+use compare::text_groups::TEXTS;
+use compare::{card_comparison, stored};
 use std::process::ExitCode;
-use text_groups::TEXTS;
 
 const SEED: u64 = 1;
 const COUNT: usize = 100_000;

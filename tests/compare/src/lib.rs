@@ -1,0 +1,15 @@
+//! What the comparison is made of. The shapes and the lists of ties serve the maker of the conformance kit too.
+
+pub mod card_comparison;
+pub mod card_groups;
+pub mod card_shapes;
+pub mod comparison;
+pub mod damage;
+pub mod groups;
+pub mod mode_groups;
+pub mod mode_shapes;
+pub mod mode_ties;
+pub mod shapes;
+pub mod stored;
+pub mod text_groups;
+pub mod ties;
