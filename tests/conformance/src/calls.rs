@@ -1,0 +1,228 @@
+//! The public calls in one form: what a call is given, and everything that comes back, from either implementation.
+
+use reference::calls as second;
+use reference::cards::Pixel;
+
+/// A call and what it is given. Lists and labels are as lent.
+pub enum Call {
+    Measures(Pixel),
+    Fit {
+        histogram: Vec<u32>,
+        rising: bool,
+    },
+    Verdict {
+        histogram: Vec<u32>,
+        rising: bool,
+        closeness: u32,
+    },
+    LineModes(Listing),
+    RingModes(Listing),
+    Card {
+        pixels: Vec<u8>,
+        closeness: u32,
+        labels: Vec<u8>,
+    },
+    PrintCard(Vec<u8>),
+}
+
+/// What either call for modes is given.
+pub struct Listing {
+    pub histogram: Vec<u32>,
+    pub closeness: u32,
+    pub list: Vec<u32>,
+}
+
+/// A figure that comes back. An array has all of its places, a list or label buffer is as it was left.
+#[derive(Clone, Debug, PartialEq, Eq)]
+pub struct Figure {
+    pub name: &'static str,
+    pub values: Vec<i64>,
+}
+
+/// All figures of one call, in the order in which they are written.
+pub type Answer = Vec<Figure>;
+
+fn figure<T: Copy + Into<i64>>(name: &'static str, values: &[T]) -> Figure {
+    Figure {
+        name,
+        values: values.iter().map(|&value| value.into()).collect(),
+    }
+}
+
+/// The figures of an entry. The two implementations have types of their own for it, with the same names inside.
+macro_rules! entry_figures {
+    ($entry:expr) => {
+        [
+            i64::from($entry.kind),
+            i64::from($entry.hue),
+            i64::from($entry.saturation),
+            i64::from($entry.intensity),
+            i64::from($entry.red),
+            i64::from($entry.green),
+            i64::from($entry.blue),
+            i64::from($entry.count),
+        ]
+    };
+}
+
+/// The answer of the engine, through its static library.
+pub fn engine(call: &Call) -> Answer {
+    match call {
+        Call::Measures([red, green, blue]) => {
+            let a = engine::measures(*red, *green, *blue);
+            let m = a.measures;
+            measures_answer(a.number, [m.intensity, m.saturation, m.hue], m.grey)
+        }
+        Call::Fit { histogram, rising } => {
+            let a = lent(histogram, |lent| engine::fit(lent, *rising));
+            fit_answer(a.number, &a.sums, &a.lengths)
+        }
+        Call::Verdict {
+            histogram,
+            rising,
+            closeness,
+        } => {
+            let a = lent(histogram, |lent| engine::verdict(lent, *rising, *closeness));
+            verdict_answer(a.number, a.verdict.cost, a.verdict.rejected)
+        }
+        Call::LineModes(given) => {
+            let mut list = given.list.clone();
+            let call = |lent: &mut [u32]| engine::line_modes(lent, given.closeness, &mut list);
+            let a = lent(&given.histogram, call);
+            modes_answer(a.number, a.separators, list)
+        }
+        Call::RingModes(given) => {
+            let mut list = given.list.clone();
+            let call = |lent: &mut [u32]| engine::ring_modes(lent, given.closeness, &mut list);
+            let a = lent(&given.histogram, call);
+            modes_answer(a.number, a.separators, sorted(list, a.separators))
+        }
+        Call::Card {
+            pixels,
+            closeness,
+            labels,
+        } => {
+            let mut labels = labels.clone();
+            let a = lent(pixels, |lent| engine::card(lent, *closeness, &mut labels));
+            let entries = a.entries.map(|entry| entry_figures!(entry));
+            card_answer(a.number, a.len, entries.concat(), &labels)
+        }
+        Call::PrintCard(text) => {
+            let a = lent(text, engine::print_card);
+            printed_answer(a.number, a.len, &a.bytes)
+        }
+    }
+}
+
+/// The answer of the second implementation.
+pub fn reference(call: &Call) -> Answer {
+    match call {
+        Call::Measures([red, green, blue]) => {
+            let a = second::measures(*red, *green, *blue);
+            let m = a.measures;
+            measures_answer(a.number, [m.intensity, m.saturation, m.hue], m.grey)
+        }
+        Call::Fit { histogram, rising } => {
+            let a = second::fit(histogram, *rising);
+            fit_answer(a.number, &a.sums, &a.lengths)
+        }
+        Call::Verdict {
+            histogram,
+            rising,
+            closeness,
+        } => {
+            let a = second::verdict(histogram, *rising, *closeness);
+            verdict_answer(a.number, a.verdict.cost, a.verdict.rejected)
+        }
+        Call::LineModes(given) => {
+            let mut list = given.list.clone();
+            let a = second::line_modes(&given.histogram, given.closeness, &mut list);
+            modes_answer(a.number, a.separators, list)
+        }
+        Call::RingModes(given) => {
+            let mut list = given.list.clone();
+            let a = second::ring_modes(&given.histogram, given.closeness, &mut list);
+            modes_answer(a.number, a.separators, sorted(list, a.separators))
+        }
+        Call::Card {
+            pixels,
+            closeness,
+            labels,
+        } => {
+            let mut labels = labels.clone();
+            let a = second::card(pixels, *closeness, &mut labels);
+            let entries = a.entries.map(|entry| entry_figures!(entry));
+            card_answer(a.number, a.len, entries.concat(), &labels)
+        }
+        Call::PrintCard(text) => {
+            let a = second::print_card(text);
+            printed_answer(a.number, a.len, &a.bytes)
+        }
+    }
+}
+
+/// Lends a copy to a call of the engine, which may read it only.
+fn lent<T: Clone + PartialEq, A>(values: &[T], call: impl FnOnce(&mut [T]) -> A) -> A {
+    let mut lent = values.to_vec();
+    let answer = call(&mut lent);
+    assert!(lent == values, "the engine wrote to what it may only read");
+    answer
+}
+
+/// The order of a ring's separators is open, so they are put into one.
+fn sorted(mut list: Vec<u32>, separators: u32) -> Vec<u32> {
+    let count = list.len().min(separators as usize);
+    list[..count].sort_unstable();
+    list
+}
+
+fn measures_answer(number: u32, bins: [u8; 3], grey: impl Into<i64>) -> Answer {
+    vec![
+        figure("number", &[number]),
+        figure("intensity", &bins[..1]),
+        figure("saturation", &bins[1..2]),
+        figure("hue", &bins[2..]),
+        figure("grey", &[grey.into()]),
+    ]
+}
+
+fn fit_answer(number: u32, sums: &[u32], lengths: &[u32]) -> Answer {
+    vec![
+        figure("number", &[number]),
+        figure("sums", sums),
+        figure("lengths", lengths),
+    ]
+}
+
+fn verdict_answer(number: u32, cost: i64, rejected: impl Into<i64>) -> Answer {
+    vec![
+        figure("number", &[number]),
+        figure("cost", &[cost]),
+        figure("rejected", &[rejected.into()]),
+    ]
+}
+
+fn modes_answer(number: u32, separators: u32, list: Vec<u32>) -> Answer {
+    vec![
+        figure("number", &[number]),
+        figure("separators", &[separators]),
+        figure("list_after", &list),
+    ]
+}
+
+fn card_answer(number: u32, len: u32, entries: Vec<i64>, labels: &[u8]) -> Answer {
+    vec![
+        figure("number", &[number]),
+        figure("len", &[len]),
+        figure("entry", &entries),
+        figure("labels_after", labels),
+    ]
+}
+
+fn printed_answer(number: u32, len: u32, bytes: &[u8]) -> Answer {
+    vec![
+        figure("number", &[number]),
+        figure("len", &[len]),
+        figure("printed", bytes),
+    ]
+}

@@ -1,0 +1,39 @@
+//! The cases of the kit, by call. Answers are no part of them.
+
+pub mod cards;
+pub mod fits;
+pub mod histograms;
+pub mod modes;
+pub mod pixels;
+pub mod texts;
+pub mod verdicts;
+
+use crate::calls::Call;
+
+/// A record to be: what it is for, and its calls. Only measures have more than one.
+pub struct Case {
+    pub what: String,
+    pub calls: Vec<Call>,
+    /// The files in which the text and what is printed stand already, seen from the folder of the kit.
+    pub kept_in: Option<[String; 2]>,
+}
+
+impl Case {
+    fn new(what: impl Into<String>, call: Call) -> Case {
+        Case {
+            what: what.into(),
+            calls: vec![call],
+            kept_in: None,
+        }
+    }
+}
+
+/// A list as lent: no bins, and falling, so that a place that is written, moved or sorted shows.
+fn unwritten_list(places: usize) -> Vec<u32> {
+    (0..places as u32).map(|place| 907 - place % 7).collect()
+}
+
+/// Labels as lent, alike.
+fn unwritten_labels(places: usize) -> Vec<u8> {
+    (0..places).map(|place| 207 - (place % 7) as u8).collect()
+}

@@ -1,0 +1,245 @@
+//! The kept cases: calls and answers, made from the records of a file and from nothing else.
+
+use crate::calls::{Answer, Call, Figure, Listing};
+use crate::reading::{records, Record};
+use reference::calls::{MOST_BINS, MOST_ENTRIES, MOST_PRINTED};
+use std::fs;
+use std::path::{Path, PathBuf};
+
+/// The version of the format.
+pub const FORMAT: i64 = 1;
+/// The figures of an entry.
+const ENTRY: usize = 8;
+/// The figures of a line of measures: a pixel, the number, and four measures.
+const MEASURED: usize = 8;
+
+/// A case of the kit, its answer filled up with the zeros that are not written.
+pub struct Kept {
+    pub line: usize,
+    pub call: Call,
+    pub answer: Answer,
+}
+
+pub fn folder() -> PathBuf {
+    Path::new(env!("CARGO_MANIFEST_DIR")).join("../vectors")
+}
+
+/// The cases of one file. The header must name the file's call and count its cases.
+pub fn cases(name: &str, text: &str) -> Result<Vec<Kept>, String> {
+    let records = records(text)?;
+    let (header, records) = records.split_first().ok_or("it has no records")?;
+    let mut kept = Vec::new();
+    for record in records {
+        let found = from_record(name, record);
+        kept.extend(found.map_err(|wrong| format!("line {}: {wrong}", record.line))?);
+    }
+    let mut fields = Fields::of(header);
+    let call: Vec<i64> = format!("kistrovu_{name}").bytes().map(i64::from).collect();
+    let counted = kept.len() as i64;
+    for (name, values) in [
+        ("format", vec![FORMAT]),
+        ("call", call),
+        ("cases", vec![counted]),
+    ] {
+        if fields.list::<i64>(name)? != values {
+            return Err(format!("the header's {name} should be {values:?}"));
+        }
+    }
+    fields.end()?;
+    Ok(kept)
+}
+
+fn from_record(name: &str, record: &Record) -> Result<Vec<Kept>, String> {
+    let mut fields = Fields::of(record);
+    let pairs = match name {
+        "measures" => measures(&mut fields)?,
+        "fit" => vec![fit(&mut fields)?],
+        "verdict" => vec![verdict(&mut fields)?],
+        "line_modes" => vec![modes(&mut fields, Call::LineModes)?],
+        "ring_modes" => vec![modes(&mut fields, Call::RingModes)?],
+        "card" => vec![card(&mut fields)?],
+        "print_card" => vec![print_card(&mut fields)?],
+        _ => return Err(format!("no call is kept in {name}")),
+    };
+    fields.end()?;
+    let kept = pairs.into_iter().map(|(call, answer)| Kept {
+        line: record.line,
+        call,
+        answer,
+    });
+    Ok(kept.collect())
+}
+
+type Pair = (Call, Answer);
+
+/// Many cases in one record, a line each.
+fn measures(fields: &mut Fields) -> Result<Vec<Pair>, String> {
+    let values: Vec<i64> = fields.list("pixel")?;
+    if values.is_empty() || !values.len().is_multiple_of(MEASURED) {
+        return Err("a line of measures has eight values".to_string());
+    }
+    let names = ["number", "intensity", "saturation", "hue", "grey"];
+    let one = |row: &[i64]| {
+        let pixel: Vec<u8> = narrowed("pixel", &row[..3])?;
+        let figures = names.iter().zip(&row[3..]);
+        let answer = figures.map(|(name, &value)| figure(name, vec![value]));
+        Ok((
+            Call::Measures([pixel[0], pixel[1], pixel[2]]),
+            answer.collect(),
+        ))
+    };
+    values.chunks(MEASURED).map(one).collect()
+}
+
+fn fit(fields: &mut Fields) -> Result<Pair, String> {
+    let histogram: Vec<u32> = fields.list("histogram")?;
+    let rising = fields.flag("rising")?;
+    let number = fields.one("number")?;
+    let written = if number == 0 { histogram.len() } else { 0 };
+    let answer = vec![
+        figure("number", vec![number]),
+        filled("sums", fields.list("sums")?, written, MOST_BINS)?,
+        filled("lengths", fields.list("lengths")?, written, MOST_BINS)?,
+    ];
+    Ok((Call::Fit { histogram, rising }, answer))
+}
+
+fn verdict(fields: &mut Fields) -> Result<Pair, String> {
+    let call = Call::Verdict {
+        histogram: fields.list("histogram")?,
+        rising: fields.flag("rising")?,
+        closeness: fields.one("closeness")?,
+    };
+    Ok((call, fields.figures(&["number", "cost", "rejected"])?))
+}
+
+fn modes(fields: &mut Fields, call: fn(Listing) -> Call) -> Result<Pair, String> {
+    let given = Listing {
+        histogram: fields.list("histogram")?,
+        closeness: fields.one("closeness")?,
+        list: fields.list("list")?,
+    };
+    let mut answer = fields.figures(&["number", "separators"])?;
+    answer.push(figure("list_after", fields.list("list_after")?));
+    Ok((call(given), answer))
+}
+
+fn card(fields: &mut Fields) -> Result<Pair, String> {
+    let call = Call::Card {
+        pixels: fields.list("pixels")?,
+        closeness: fields.one("closeness")?,
+        labels: fields.list("labels")?,
+    };
+    let mut answer = fields.figures(&["number", "len"])?;
+    let written = ENTRY * answer[1].values[0] as usize;
+    let entries = fields.list("entry")?;
+    answer.push(filled("entry", entries, written, ENTRY * MOST_ENTRIES)?);
+    answer.push(figure("labels_after", fields.list("labels_after")?));
+    Ok((call, answer))
+}
+
+/// Both texts stand in the record, or both in files of their own.
+fn print_card(fields: &mut Fields) -> Result<Pair, String> {
+    let in_files = fields.next_is("text_file");
+    let text = if in_files {
+        fields.file("text_file")?
+    } else {
+        fields.list("text")?
+    };
+    let mut answer = fields.figures(&["number", "len"])?;
+    let written = answer[1].values[0] as usize;
+    let printed: Vec<i64> = if in_files {
+        fields
+            .file("printed_file")?
+            .into_iter()
+            .map(i64::from)
+            .collect()
+    } else {
+        fields.list("printed")?
+    };
+    answer.push(filled("printed", printed, written, MOST_PRINTED)?);
+    Ok((Call::PrintCard(text), answer))
+}
+
+fn figure(name: &'static str, values: Vec<i64>) -> Figure {
+    Figure { name, values }
+}
+
+/// As many values as are written, and zeros up to the last place.
+fn filled(
+    name: &'static str,
+    mut values: Vec<i64>,
+    written: usize,
+    places: usize,
+) -> Result<Figure, String> {
+    if values.len() != written || written > places {
+        return Err(format!("{name} has {} values", values.len()));
+    }
+    values.resize(places, 0);
+    Ok(figure(name, values))
+}
+
+fn narrowed<T: TryFrom<i64>>(name: &str, values: &[i64]) -> Result<Vec<T>, String> {
+    let one = |&value: &i64| T::try_from(value).map_err(|_| format!("{name} cannot be {value}"));
+    values.iter().map(one).collect()
+}
+
+/// The fields of a record, taken one after the other.
+struct Fields<'a> {
+    left: std::slice::Iter<'a, (String, Vec<i64>)>,
+}
+
+impl<'a> Fields<'a> {
+    fn of(record: &'a Record) -> Self {
+        Fields {
+            left: record.fields.iter(),
+        }
+    }
+
+    fn next_is(&self, wanted: &str) -> bool {
+        (self.left.as_slice().first()).is_some_and(|(name, _)| name == wanted)
+    }
+
+    fn list<T: TryFrom<i64>>(&mut self, wanted: &str) -> Result<Vec<T>, String> {
+        match self.left.next() {
+            Some((name, values)) if name == wanted => narrowed(name, values),
+            other => Err(format!(
+                "{wanted} is missing before {:?}",
+                other.map(|field| &field.0)
+            )),
+        }
+    }
+
+    fn one<T: TryFrom<i64> + Copy>(&mut self, wanted: &str) -> Result<T, String> {
+        match self.list(wanted)?[..] {
+            [value] => Ok(value),
+            _ => Err(format!("{wanted} should have one value")),
+        }
+    }
+
+    fn flag(&mut self, wanted: &str) -> Result<bool, String> {
+        match self.one::<i64>(wanted)? {
+            0 => Ok(false),
+            1 => Ok(true),
+            value => Err(format!("{wanted} cannot be {value}")),
+        }
+    }
+
+    fn figures(&mut self, wanted: &[&'static str]) -> Result<Answer, String> {
+        let one = |&name: &&'static str| Ok(figure(name, vec![self.one(name)?]));
+        wanted.iter().map(one).collect()
+    }
+
+    /// The bytes of the file that is named, seen from the folder of the kit.
+    fn file(&mut self, wanted: &str) -> Result<Vec<u8>, String> {
+        let path = String::from_utf8(self.list(wanted)?).map_err(|wrong| wrong.to_string())?;
+        fs::read(folder().join(&path)).map_err(|wrong| format!("{path}: {wrong}"))
+    }
+
+    fn end(&mut self) -> Result<(), String> {
+        match self.left.next() {
+            None => Ok(()),
+            Some((name, _)) => Err(format!("{name} is left over")),
+        }
+    }
+}

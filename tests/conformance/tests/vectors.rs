@@ -1,0 +1,191 @@
+//! The kit as it is kept: it is what the maker makes, and read back it holds of both implementations.
+
+use conformance::calls::{engine, reference, Answer, Call};
+use conformance::files::made;
+use conformance::kept::{cases, folder};
+use std::collections::BTreeMap;
+use std::fs;
+
+/// The files, the least number of cases in each, and the least for each number that its call can give.
+const LEAST: [(&str, usize, &[(i64, usize)]); 7] = [
+    ("measures", 1300, &[(0, 1300)]),
+    ("fit", 300, &[(0, 250), (6, 12), (7, 24)]),
+    ("verdict", 500, &[(0, 450), (6, 16), (7, 30), (8, 14)]),
+    (
+        "line_modes",
+        400,
+        &[(0, 350), (6, 12), (7, 16), (8, 7), (10, 4)],
+    ),
+    (
+        "ring_modes",
+        350,
+        &[(0, 300), (6, 12), (7, 16), (8, 7), (10, 4)],
+    ),
+    (
+        "card",
+        150,
+        &[(0, 110), (4, 13), (5, 5), (8, 6), (9, 8), (11, 4)],
+    ),
+    (
+        "print_card",
+        300,
+        &[(0, 70), (1, 60), (2, 20), (3, 120), (11, 3)],
+    ),
+];
+/// The most bytes of a file, so that it can be read.
+const MOST_BYTES: usize = 300_000;
+
+fn kept_text(name: &str) -> String {
+    let path = folder().join(format!("{name}.txt"));
+    fs::read_to_string(&path).unwrap_or_else(|wrong| panic!("{}: {wrong}", path.display()))
+}
+
+/// How many cases hold, or the first that does not.
+fn check(name: &str, text: &str, answers: fn(&Call) -> Answer) -> Result<usize, String> {
+    let kept = cases(name, text)?;
+    for case in &kept {
+        let found = answers(&case.call);
+        if found != case.answer {
+            let differ = found.iter().zip(&case.answer).find(|(a, b)| a != b);
+            return Err(format!("the case of line {}: {differ:?}", case.line));
+        }
+    }
+    Ok(kept.len())
+}
+
+#[test]
+fn files_are_as_made() {
+    for file in made().expect("both implementations agree") {
+        assert!(kept_text(file.name) == file.text, "{}.txt", file.name);
+    }
+}
+
+#[test]
+fn there_are_no_other_files() {
+    let mut expected: Vec<String> = LEAST
+        .iter()
+        .map(|(name, ..)| format!("{name}.txt"))
+        .collect();
+    expected.extend([".gitattributes", "README.md"].map(String::from));
+    expected.sort_unstable();
+    let files = fs::read_dir(folder()).expect("the folder can be read");
+    let name = |file: std::io::Result<fs::DirEntry>| {
+        let file = file.expect("the folder can be read");
+        file.file_name().to_string_lossy().into_owned()
+    };
+    let mut found: Vec<String> = files.map(name).collect();
+    found.sort_unstable();
+    assert_eq!(found, expected);
+}
+
+#[test]
+fn files_are_plain_text() {
+    for (name, ..) in LEAST {
+        let text = kept_text(name);
+        let plain = |byte: u8| byte == b'\n' || (b' '..=b'~').contains(&byte);
+        assert!(text.bytes().all(plain), "{name}");
+        assert!(text.len() <= MOST_BYTES, "{name}: {} bytes", text.len());
+    }
+}
+
+#[test]
+fn every_case_holds_of_the_engine() {
+    for (name, least, _) in LEAST {
+        let held =
+            check(name, &kept_text(name), engine).unwrap_or_else(|wrong| panic!("{name}: {wrong}"));
+        assert!(held >= least, "{name}: {held} cases");
+        println!("{name}: {held} cases");
+    }
+}
+
+#[test]
+fn every_case_holds_of_the_second_implementation() {
+    for (name, least, _) in LEAST {
+        let held = check(name, &kept_text(name), reference)
+            .unwrap_or_else(|wrong| panic!("{name}: {wrong}"));
+        assert!(held >= least, "{name}: {held} cases");
+    }
+}
+
+/// And no other number is given.
+#[test]
+fn every_ground_is_met_often_enough() {
+    for (name, _, least) in LEAST {
+        let mut found: BTreeMap<i64, usize> = BTreeMap::new();
+        for case in cases(name, &kept_text(name)).expect(name) {
+            *found.entry(case.answer[0].values[0]).or_default() += 1;
+        }
+        let numbers: Vec<i64> = least.iter().map(|&(number, _)| number).collect();
+        assert_eq!(found.keys().copied().collect::<Vec<_>>(), numbers, "{name}");
+        for (number, least) in least {
+            assert!(
+                found[number] >= *least,
+                "{name}, number {number}: {}",
+                found[number]
+            );
+        }
+    }
+}
+
+/// The names of the lines that hold answers.
+const ANSWERS: [&str; 12] = [
+    "pixel",
+    "number",
+    "sums",
+    "lengths",
+    "cost",
+    "rejected",
+    "separators",
+    "list_after",
+    "len",
+    "entry",
+    "labels_after",
+    "printed",
+];
+
+/// The line with another last digit, or with a value where there was none.
+fn altered(line: &str) -> String {
+    match line.rfind(|c: char| c.is_ascii_digit()) {
+        None => format!("{line} 1"),
+        Some(place) => {
+            let digit = if &line[place..=place] == "1" {
+                "2"
+            } else {
+                "1"
+            };
+            format!("{}{digit}{}", &line[..place], &line[place + 1..])
+        }
+    }
+}
+
+/// A check that cannot fail would be none: each figure of some cases of each file is altered, one at a time.
+#[test]
+fn every_altered_figure_is_noticed() {
+    let mut tried = BTreeMap::new();
+    for (name, ..) in LEAST {
+        let text = kept_text(name);
+        let records: Vec<&str> = text.trim_end().split("\n\n").skip(1).collect();
+        for record in records.iter().step_by(records.len() / 9) {
+            let lines: Vec<&str> = record
+                .lines()
+                .filter(|line| !line.starts_with('#'))
+                .collect();
+            // A record of measures has a case in each line.
+            let count = if name == "measures" { lines.len() } else { 1 };
+            let header = format!("format 1\ncall \"kistrovu_{name}\"\ncases {count}\n\n");
+            check(name, &format!("{header}{}\n", lines.join("\n")), engine).expect(record);
+            for place in 0..lines.len() {
+                let word = lines[place].split(' ').next().expect("a line has a name");
+                if !ANSWERS.contains(&word) {
+                    continue;
+                }
+                let mut lines: Vec<String> = lines.iter().map(|line| line.to_string()).collect();
+                lines[place] = altered(&lines[place]);
+                let text = format!("{header}{}\n", lines.join("\n"));
+                assert!(check(name, &text, engine).is_err(), "{name}: {text}");
+                *tried.entry(word.to_string()).or_insert(0) += 1;
+            }
+        }
+    }
+    assert_eq!(tried.len(), ANSWERS.len(), "{tried:?}");
+}
