@@ -37,7 +37,7 @@ fn planned() -> Result<Vec<Planned>, String> {
     Ok(vec![
         plan(
             "measures",
-            "The measures of a pixel. Each line is a case: pixel, then R G B, number, intensity, saturation, hue, grey.",
+            "The measures of a pixel. Each line is a case: R G B, number, intensity, saturation, hue, grey.",
             pixels::cases(),
         ),
         plan("fit", "The monotone fit of a histogram.", fits::cases()),
@@ -62,10 +62,9 @@ fn file_text(file: &Planned) -> Result<String, String> {
         count += case.calls.len();
     }
     let call = quoted(format!("kistrovu_{}", file.name).as_bytes());
-    Ok(format!(
-        "# Kistrovu's conformance kit; README.md says how to read it.\n# {}\nformat {FORMAT}\ncall {call}\ncases {count}\n{records}",
-        file.about
-    ))
+    let title = "Kistrovu's conformance kit; README.md says how to read it.";
+    let header = format!("format {FORMAT}\ncall {call}\ncases {count}\n");
+    Ok(format!("# {title}\n# {}\n{header}{records}", file.about))
 }
 
 fn case_text(case: &Case) -> Result<String, String> {

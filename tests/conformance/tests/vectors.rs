@@ -6,8 +6,10 @@ use conformance::kept::{cases, folder};
 use std::collections::BTreeMap;
 use std::fs;
 
-/// The files, the least number of cases in each, and the least for each number that its call can give.
-const LEAST: [(&str, usize, &[(i64, usize)]); 7] = [
+/// A file, the least number of its cases, and the least for each number that its call can give.
+type Least = (&'static str, usize, &'static [(i64, usize)]);
+
+const LEAST: [Least; 7] = [
     ("measures", 1300, &[(0, 1300)]),
     ("fit", 300, &[(0, 250), (6, 12), (7, 24)]),
     ("verdict", 500, &[(0, 450), (6, 16), (7, 30), (8, 14)]),
@@ -124,6 +126,21 @@ fn every_ground_is_met_often_enough() {
                 found[number]
             );
         }
+    }
+}
+
+#[test]
+fn the_readme_has_the_number_of_cases() {
+    let path = folder().join("README.md");
+    let page = fs::read_to_string(path).expect("the page can be read");
+    for (name, ..) in LEAST {
+        let count = cases(name, &kept_text(name)).expect(name).len();
+        let count = match count / 1000 {
+            0 => count.to_string(),
+            thousands => format!("{thousands},{:03}", count % 1000),
+        };
+        let row = format!("| `{name}.txt` | {count} |");
+        assert!(page.contains(&row), "{row}");
     }
 }
 

@@ -35,7 +35,7 @@ const SHAPES: [(&str, CardShape); 10] = [
 pub fn cases() -> Vec<Case> {
     let mut all = samples();
     all.extend(one_pixel());
-    all.extend(small());
+    all.extend(for_rules());
     all.extend(byte_counts());
     all.extend(pixel_counts());
     all.extend(closenesses());
@@ -97,103 +97,105 @@ fn one_pixel() -> Vec<Case> {
     pixels.into_iter().map(one).collect()
 }
 
-/// Each for one rule.
-fn small() -> Vec<Case> {
-    let cards: [(&str, u32, &[(Pixel, usize)]); 15] = [
-        (
-            "two greys that are too few to stand apart",
-            0,
-            &[(BLACK, 1), (WHITE, 1)],
-        ),
-        ("two greys apart", 0, &[(BLACK, 20), (WHITE, 20)]),
-        (
-            "two greys that a higher closeness joins",
-            20,
-            &[(BLACK, 20), (WHITE, 20)],
-        ),
-        (
-            "three greys, numbered by intensity",
-            0,
-            &[(WHITE, 20), (BLACK, 30), ([128; 3], 25)],
-        ),
-        (
-            "three hues, numbered from the ring's opening",
-            0,
-            &[(RED, 40), (BLUE, 40), (GREEN, 40)],
-        ),
-        (
-            "one hue on both sides of the ring's seam",
-            0,
-            &[
-                ([100, 200, 0], 40),
-                ([104, 200, 0], 40),
-                ([100, 0, 200], 40),
-            ],
-        ),
-        (
-            "one hue of two saturations",
-            0,
-            &[([120, 100, 100], 50), ([200, 40, 40], 50)],
-        ),
-        (
-            "one hue of two saturations, one of them of two intensities",
-            0,
-            &[
-                ([225, 105, 105], 50),
-                ([150, 30, 30], 50),
-                ([120, 100, 100], 50),
-            ],
-        ),
-        (
-            "two hues: each is split by its own pixels",
-            0,
-            &[
-                ([225, 105, 105], 50),
-                ([150, 30, 30], 50),
-                ([40, 40, 200], 50),
-                ([100, 100, 120], 50),
-            ],
-        ),
-        (
-            "the grey threshold: one grey and one colour",
-            0,
-            &[([13, 9, 0], 3), ([13, 10, 0], 2)],
-        ),
-        (
-            "a mean of a half is rounded up",
-            0,
-            &[([0; 3], 1), ([1; 3], 1)],
-        ),
-        (
-            "a mean below a half is rounded down",
-            0,
-            &[([0; 3], 2), ([1; 3], 1)],
-        ),
-        (
-            "a mean of 254 and a half",
-            0,
-            &[([254; 3], 1), ([255; 3], 1)],
-        ),
-        (
-            "means of each channel by itself",
-            0,
-            &[([10, 200, 30], 2), ([12, 203, 30], 1), ([11, 201, 33], 1)],
-        ),
-        (
-            "greys and colours",
-            0,
-            &[
-                (RED, 30),
-                ([60; 3], 30),
-                (GREEN, 30),
-                ([200; 3], 30),
-                (BLACK, 30),
-            ],
-        ),
-    ];
-    cards
-        .map(|(what, closeness, pixels)| fitting(what, &runs(pixels), closeness))
-        .into()
+/// Images that speak for one rule each: the rule, a closeness, and so many pixels of each colour.
+type Rule = (&'static str, u32, &'static [(Pixel, usize)]);
+
+const RULES: &[Rule] = &[
+    (
+        "two greys that are too few to stand apart",
+        0,
+        &[(BLACK, 1), (WHITE, 1)],
+    ),
+    ("two greys apart", 0, &[(BLACK, 20), (WHITE, 20)]),
+    (
+        "two greys that a higher closeness joins",
+        20,
+        &[(BLACK, 20), (WHITE, 20)],
+    ),
+    (
+        "three greys, numbered by intensity",
+        0,
+        &[(WHITE, 20), (BLACK, 30), ([128; 3], 25)],
+    ),
+    (
+        "three hues, numbered from the ring's opening",
+        0,
+        &[(RED, 40), (BLUE, 40), (GREEN, 40)],
+    ),
+    (
+        "one hue on both sides of the ring's seam",
+        0,
+        &[
+            ([100, 200, 0], 40),
+            ([104, 200, 0], 40),
+            ([100, 0, 200], 40),
+        ],
+    ),
+    (
+        "one hue of two saturations",
+        0,
+        &[([120, 100, 100], 50), ([200, 40, 40], 50)],
+    ),
+    (
+        "one hue of two saturations, one of them of two intensities",
+        0,
+        &[
+            ([225, 105, 105], 50),
+            ([150, 30, 30], 50),
+            ([120, 100, 100], 50),
+        ],
+    ),
+    (
+        "two hues: each is split by its own pixels",
+        0,
+        &[
+            ([225, 105, 105], 50),
+            ([150, 30, 30], 50),
+            ([40, 40, 200], 50),
+            ([100, 100, 120], 50),
+        ],
+    ),
+    (
+        "the grey threshold: one grey and one colour",
+        0,
+        &[([13, 9, 0], 3), ([13, 10, 0], 2)],
+    ),
+    (
+        "a mean of a half is rounded up",
+        0,
+        &[([0; 3], 1), ([1; 3], 1)],
+    ),
+    (
+        "a mean below a half is rounded down",
+        0,
+        &[([0; 3], 2), ([1; 3], 1)],
+    ),
+    (
+        "a mean of 254 and a half",
+        0,
+        &[([254; 3], 1), ([255; 3], 1)],
+    ),
+    (
+        "means of each channel by itself",
+        0,
+        &[([10, 200, 30], 2), ([12, 203, 30], 1), ([11, 201, 33], 1)],
+    ),
+    (
+        "greys and colours",
+        0,
+        &[
+            (RED, 30),
+            ([60; 3], 30),
+            (GREEN, 30),
+            ([200; 3], 30),
+            (BLACK, 30),
+        ],
+    ),
+];
+
+fn for_rules() -> Vec<Case> {
+    let one = |&(rule, closeness, pixels): &Rule| fitting(rule, &runs(pixels), closeness);
+    RULES.iter().map(one).collect()
 }
 
 /// Ground 4 from both sides.
@@ -229,12 +231,6 @@ fn pixel_counts() -> Vec<Case> {
             "131,072 pixels, which are 0 in 16 bits: ground 5",
             &[BLACK; 2 * MOST],
             0,
-        ),
-        case(
-            "65,537 pixels and a byte: ground 4 comes first",
-            vec![0; 3 * MOST + 4],
-            0,
-            MOST + 1,
         ),
     ]
 }
@@ -311,55 +307,43 @@ fn entry_counts() -> Vec<Case> {
     ]
 }
 
-/// Every choice of the grounds 4, 5, 8 and 9 that can hold at once, but for one alone.
+/// Every choice of two or more of the grounds 4, 5, 8 and 9, and of none.
 fn grounds_at_once() -> Vec<Case> {
-    let (few, many) = (vec![9; 6], vec![9; 3 * MOST + 3]);
-    let (part, long_part) = (vec![9; 7], vec![9; 3 * MOST + 5]);
     let close = MOST_CLOSENESS + 1;
-    vec![
-        case(
+    let (few, part, many) = (6, 7, 3 * MOST + 3);
+    let long_part = many + 2;
+    [
+        (
             "grounds 4, 5, 8, 9 hold: 4 comes first",
-            long_part.clone(),
+            long_part,
             close,
             0,
         ),
-        case(
+        (
             "grounds 4, 5, 8 hold: 4 comes first",
-            long_part.clone(),
+            long_part,
             close,
             MOST + 1,
         ),
-        case("grounds 4, 5, 9 hold: 4 comes first", long_part, 0, 1),
-        case(
-            "grounds 4, 8, 9 hold: 4 comes first",
-            part.clone(),
-            close,
-            3,
-        ),
-        case("grounds 4, 8 hold: 4 comes first", part.clone(), close, 2),
-        case("grounds 4, 9 hold: 4 comes first", part, 0, 3),
-        case(
-            "grounds 4, 8, 9 hold without a byte: 4 comes first",
-            vec![],
+        ("grounds 4, 5, 9 hold: 4 comes first", long_part, 0, 1),
+        ("grounds 4, 5 hold: 4 comes first", long_part, 0, MOST + 1),
+        ("grounds 4, 8, 9 hold: 4 comes first", part, close, 3),
+        (
+            "grounds 4, 8, 9 hold, with no bytes: 4 comes first",
+            0,
             close,
             1,
         ),
-        case(
-            "grounds 5, 8, 9 hold: 5 comes first",
-            many.clone(),
-            close,
-            0,
-        ),
-        case(
-            "grounds 5, 8 hold: 5 comes first",
-            many.clone(),
-            close,
-            MOST + 1,
-        ),
-        case("grounds 5, 9 hold: 5 comes first", many, 0, MOST),
-        case("grounds 8, 9 hold: 8 comes first", few.clone(), close, 1),
-        case("no ground holds", few, 0, 2),
+        ("grounds 4, 8 hold: 4 comes first", part, close, 2),
+        ("grounds 4, 9 hold: 4 comes first", part, 0, 3),
+        ("grounds 5, 8, 9 hold: 5 comes first", many, close, 0),
+        ("grounds 5, 8 hold: 5 comes first", many, close, MOST + 1),
+        ("grounds 5, 9 hold: 5 comes first", many, 0, MOST),
+        ("grounds 8, 9 hold: 8 comes first", few, close, 1),
+        ("no ground holds", few, 0, 2),
     ]
+    .map(|(what, bytes, closeness, places)| case(what, vec![9; bytes], closeness, places))
+    .into()
 }
 
 /// Small cloths of plain yarns, warp over weft.

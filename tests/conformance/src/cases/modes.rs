@@ -51,7 +51,7 @@ pub fn lines() -> Vec<Case> {
         all.push(sample(what, &[0, 20, 0, 20, 0], closeness));
     }
     all.extend(common(&[0, 20, 0, 20, 0]));
-    all.extend(misreadings());
+    all.extend(for_rules(LINE_RULES));
     all.extend(every_small(&[
         (3, &[0, 1, 5]),
         (4, &[0, 6]),
@@ -79,7 +79,7 @@ pub fn rings() -> Vec<Case> {
         all.push(sample(what, &[20, 0, 20, 0], closeness));
     }
     all.extend(common(&[20, 0, 20, 0]));
-    all.extend(misreadings());
+    all.extend(for_rules(RING_RULES));
     all.extend(turned());
     all.extend(every_small(&[
         (2, &[0, 1, 20]),
@@ -187,113 +187,204 @@ fn grounds_at_once() -> Vec<Asked> {
     all
 }
 
-/// Lines on which an engine that has misread a rule gives other separators. As rings they are as good as any.
-fn misreadings() -> Vec<Asked> {
-    let lines: [(&str, u32, &[u32]); 32] = [
-        ("the leftmost of equal runs is joined", 0, &[8, 1, 3, 1, 8]),
-        (
-            "the leftmost of equal runs is joined",
-            0,
-            &[16, 0, 4, 0, 16],
-        ),
-        (
-            "the fall counts if both cost the same",
-            0,
-            &[0, 6, 4, 6, 0, 4],
-        ),
-        (
-            "the fall counts if both cost the same",
-            0,
-            &[0, 4, 0, 4, 0, 0, 4],
-        ),
-        ("a peak is the first highest bin", 0, &[7, 1, 7, 7]),
-        ("a peak is the first highest bin", 0, &[14, 14, 4, 14]),
-        (
-            "after a join runs of two come again",
-            0,
-            &[5, 0, 5, 0, 5, 0, 5],
-        ),
-        (
-            "after a join runs of two come again",
-            0,
-            &[8, 1, 9, 1, 9, 1, 8],
-        ),
-        ("the smaller of the two costs counts", 1, &[6, 0, 2]),
-        ("the smaller of the two costs counts", 0, &[20, 14, 39]),
-        ("runs of three are joined too", 0, &[8, 1, 8, 1, 8]),
-        ("runs of three are joined too", 0, &[16, 5, 17, 5, 16]),
-        (
-            "a separator is the first bin of its valley",
-            0,
-            &[3, 0, 0, 3],
-        ),
-        (
-            "a separator is the first bin of its valley",
-            0,
-            &[5, 0, 0, 0, 5],
-        ),
-        (
-            "a rise keeps the last peak, a fall the first",
-            0,
-            &[14, 5, 20, 5, 14],
-        ),
-        (
-            "a rise keeps the last peak, a fall the first",
-            1,
-            &[3, 0, 9, 0, 3],
-        ),
-        ("a fall may be joined, not only a rise", 0, &[4, 0, 1]),
-        ("a fall may be joined, not only a rise", 0, &[16, 7, 8]),
-        ("a rise may be joined, not only a fall", 0, &[8, 6, 15]),
-        ("a rise may be joined, not only a fall", 0, &[11, 8, 27]),
-        (
-            "short runs are tried before long ones",
-            0,
-            &[3, 0, 6, 0, 5, 0, 3],
-        ),
-        (
-            "short runs are tried before long ones",
-            2,
-            &[6, 0, 7, 5, 7, 0, 6],
-        ),
-        (
-            "the cheapest run is joined, not the first that can be",
-            0,
-            &[0, 8, 0, 2, 1, 8, 0],
-        ),
-        (
-            "the cheapest run is joined, not the first that can be",
-            0,
-            &[9, 0, 0, 2, 0, 0, 9],
-        ),
-        ("a fall keeps its first peak", 0, &[1, 0, 8, 0, 1, 1]),
-        ("a fall keeps its first peak", 0, &[4, 0, 4, 0, 0, 4]),
-        ("a rise keeps its last peak", 0, &[3, 0, 5, 0, 3]),
-        ("a rise keeps its last peak", 0, &[5, 0, 5, 2, 8]),
-        (
-            "the peak kept need not be the higher one",
-            0,
-            &[7, 1, 7, 5, 7],
-        ),
-        (
-            "the peak kept need not be the higher one",
-            5,
-            &[10, 0, 14, 10, 14],
-        ),
-        (
-            "a plateau at the end has no separator of its own",
-            0,
-            &[3, 1, 1, 1],
-        ),
-        (
-            "a plateau at the start has no separator of its own",
-            0,
-            &[1, 1, 1, 3],
-        ),
-    ];
-    lines
-        .map(|(what, closeness, line)| fitting((what.to_string(), line.to_vec()), closeness))
-        .into()
+/// Histograms on which an engine that has misread a rule gives other separators: the rule, a closeness, the counts.
+type Rule = (&'static str, u32, &'static [u32]);
+
+const LINE_RULES: &[Rule] = &[
+    ("the leftmost of equal runs is joined", 0, &[8, 1, 3, 1, 8]),
+    (
+        "the leftmost of equal runs is joined",
+        0,
+        &[16, 0, 4, 0, 16],
+    ),
+    (
+        "the fall counts if both cost the same",
+        0,
+        &[0, 6, 4, 6, 0, 4],
+    ),
+    (
+        "the fall counts if both cost the same",
+        0,
+        &[0, 4, 0, 4, 0, 0, 4],
+    ),
+    ("a peak is the first highest bin", 0, &[7, 1, 7, 7]),
+    ("a peak is the first highest bin", 0, &[14, 14, 4, 14]),
+    (
+        "after a join runs of two come again",
+        0,
+        &[5, 0, 5, 0, 5, 0, 5],
+    ),
+    (
+        "after a join runs of two come again",
+        0,
+        &[8, 1, 9, 1, 9, 1, 8],
+    ),
+    ("the smaller of the two costs counts", 1, &[6, 0, 2]),
+    ("the smaller of the two costs counts", 0, &[20, 14, 39]),
+    ("runs of three are joined too", 0, &[8, 1, 8, 1, 8]),
+    ("runs of three are joined too", 0, &[16, 5, 17, 5, 16]),
+    ("runs of four are joined too", 0, &[6, 0, 6, 0, 6, 0, 6]),
+    (
+        "runs of five are joined too",
+        0,
+        &[7, 0, 7, 0, 7, 0, 7, 0, 7],
+    ),
+    (
+        "runs of six are joined too",
+        0,
+        &[8, 0, 8, 0, 8, 0, 8, 0, 8, 0, 8],
+    ),
+    (
+        "a separator is the first bin of its valley",
+        0,
+        &[3, 0, 0, 3],
+    ),
+    (
+        "a separator is the first bin of its valley",
+        0,
+        &[5, 0, 0, 0, 5],
+    ),
+    (
+        "a rise keeps the last peak, a fall the first",
+        0,
+        &[14, 5, 20, 5, 14],
+    ),
+    (
+        "a rise keeps the last peak, a fall the first",
+        1,
+        &[3, 0, 9, 0, 3],
+    ),
+    ("a fall may be joined, not only a rise", 0, &[4, 0, 1]),
+    ("a fall may be joined, not only a rise", 0, &[16, 7, 8]),
+    ("a rise may be joined, not only a fall", 0, &[8, 6, 15]),
+    ("a rise may be joined, not only a fall", 0, &[11, 8, 27]),
+    (
+        "short runs are tried before long ones",
+        0,
+        &[3, 0, 6, 0, 5, 0, 3],
+    ),
+    (
+        "short runs are tried before long ones",
+        2,
+        &[6, 0, 7, 5, 7, 0, 6],
+    ),
+    (
+        "the cheapest run is joined, not the first that can be",
+        0,
+        &[0, 8, 0, 2, 1, 8, 0],
+    ),
+    (
+        "the cheapest run is joined, not the first that can be",
+        0,
+        &[9, 0, 0, 2, 0, 0, 9],
+    ),
+    ("a fall keeps its first peak", 0, &[1, 0, 8, 0, 1, 1]),
+    ("a fall keeps its first peak", 0, &[4, 0, 4, 0, 0, 4]),
+    ("a rise keeps its last peak", 0, &[3, 0, 5, 0, 3]),
+    ("a rise keeps its last peak", 0, &[5, 0, 5, 2, 8]),
+    (
+        "the peak kept need not be the higher one",
+        0,
+        &[7, 1, 7, 5, 7],
+    ),
+    (
+        "the peak kept need not be the higher one",
+        5,
+        &[10, 0, 14, 10, 14],
+    ),
+    (
+        "a plateau at the end has no separator of its own",
+        0,
+        &[3, 1, 1, 1],
+    ),
+    (
+        "a plateau at the start has no separator of its own",
+        0,
+        &[1, 1, 1, 3],
+    ),
+];
+
+const RING_RULES: &[Rule] = &[
+    (
+        "the leftmost of equal runs is joined",
+        0,
+        &[1, 8, 1, 3, 1, 8],
+    ),
+    (
+        "the leftmost of equal runs is joined",
+        0,
+        &[2, 12, 2, 7, 2, 12],
+    ),
+    (
+        "the fall counts if both cost the same",
+        0,
+        &[3, 20, 14, 20, 3, 14],
+    ),
+    (
+        "the fall counts if both cost the same",
+        2,
+        &[0, 7, 0, 8, 7, 8],
+    ),
+    ("a peak is the first highest bin", 0, &[1, 8, 1, 8, 8]),
+    ("a peak is the first highest bin", 0, &[4, 15, 15, 4, 15]),
+    (
+        "after a join runs of two come again",
+        0,
+        &[0, 5, 0, 5, 0, 5, 0, 5],
+    ),
+    (
+        "after a join runs of two come again",
+        0,
+        &[0, 8, 0, 5, 0, 5, 0, 8],
+    ),
+    ("runs of three are joined too", 0, &[0, 5, 0, 5, 0, 5]),
+    ("runs of three are joined too", 0, &[2, 11, 2, 11, 2, 11]),
+    (
+        "a rise keeps the last peak, a fall the first",
+        1,
+        &[0, 3, 0, 7, 0, 3],
+    ),
+    (
+        "a rise keeps the last peak, a fall the first",
+        0,
+        &[9, 35, 29, 35, 9, 26],
+    ),
+    (
+        "short runs are tried before long ones",
+        0,
+        &[0, 5, 0, 5, 2, 5],
+    ),
+    (
+        "short runs are tried before long ones",
+        2,
+        &[0, 8, 3, 8, 8, 0, 8],
+    ),
+    (
+        "the cheapest run is joined, not the first that can be",
+        0,
+        &[9, 46, 9, 9, 17, 9, 46],
+    ),
+    (
+        "the cheapest run is joined, not the first that can be",
+        0,
+        &[15, 38, 15, 21, 15, 21, 38],
+    ),
+    (
+        "the peak kept need not be the higher one",
+        0,
+        &[2, 11, 2, 2, 11, 2, 11],
+    ),
+    (
+        "the peak kept need not be the higher one",
+        0,
+        &[4, 15, 4, 4, 15, 13, 15],
+    ),
+];
+
+fn for_rules(rules: &[Rule]) -> Vec<Asked> {
+    let one =
+        |&(rule, closeness, counts): &Rule| fitting((rule.to_string(), counts.to_vec()), closeness);
+    rules.iter().map(one).collect()
 }
 
 /// One ring turned on bin by bin, and rings whose lowest bin comes again.

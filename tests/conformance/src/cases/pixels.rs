@@ -82,7 +82,7 @@ fn intensities() -> Vec<Pixel> {
 
 /// Nearly equal channels of this sum.
 fn of_sum(sum: u16) -> Pixel {
-    [sum / 3, (sum + 1) / 3, (sum + 2) / 3].map(|level| level as u8)
+    [sum / 3, (sum + 1) / 3, sum.div_ceil(3)].map(|level| level as u8)
 }
 
 /// At the dark end and at the light end.

@@ -49,6 +49,8 @@ fn headers() -> Vec<Case> {
         ("a space inside the width: ground 1", "   1 1     1\n"),
         ("a header of 11 characters: ground 1", "     1    1\n"),
         ("a header of 13 characters: ground 1", "      1     1\n"),
+        ("a header with a digit behind: ground 1", "     1     11\n"),
+        ("a header of three fields: ground 1", "     1     1     1\n"),
         (
             "a header with a carriage return: ground 1",
             "     1     1\r\n",
@@ -108,7 +110,7 @@ fn sizes() -> Vec<Case> {
 
 /// Ground 3 from both sides, behind a header of one pixel.
 fn pixel_lines() -> Vec<Case> {
-    let lines: [(&str, &[u8]); 26] = [
+    let lines: [(&str, &[u8]); 29] = [
         ("the largest field", b" 255 255 255\n"),
         ("the smallest field", b"   0   0   0\n"),
         ("fields of one, two and three digits", b"   7  42 100\n"),
@@ -125,6 +127,9 @@ fn pixel_lines() -> Vec<Case> {
         ("11 characters: ground 3", b"  0   0   0\n"),
         ("13 characters: ground 3", b"    0   0   0\n"),
         ("a space behind: ground 3", b"   0   0   0 \n"),
+        ("a digit behind: ground 3", b"   0   0   00\n"),
+        ("four fields: ground 3", b"   0   0   0   0\n"),
+        ("two fields: ground 3", b"   0   0\n"),
         ("a carriage return: ground 3", b"   0   0   0\r\n"),
         ("no line feed: ground 3", b"   0   0   0"),
         ("no line: ground 3", b""),

@@ -18,6 +18,7 @@ pub fn cases() -> Vec<Case> {
     all.extend(limits().into_iter().map(|named| (named, 0)));
     all.extend(grounds_at_once());
     all.extend(telling().into_iter().map(|named| (named, 0)));
+    all.extend(denominators());
     all.extend(every_small());
     all.extend(ties());
     all.extend(drawn());
@@ -81,6 +82,29 @@ fn grounds_at_once() -> Vec<Judged> {
         ("ground 8 alone", vec![65_536, 0]),
     ]
     .map(|(what, histogram)| ((what.to_string(), histogram), MOST_CLOSENESS + 1))
+    .to_vec()
+}
+
+/// Stretches whose cost is another by some units when B is not what document 01 says.
+fn denominators() -> Vec<Judged> {
+    let not_product = "B of a part that ends in two blocks is the product of their lengths";
+    let equal = "B is the product also where the two lengths are equal";
+    let one_block = "B of a part that ends in one block is its length";
+    let not_lowest = "A/B is not put into lowest terms";
+    let common = "B is the product, not the least common multiple";
+    [
+        (not_product, vec![0, 5, 2]),
+        (not_product, vec![1, 7, 0]),
+        (equal, vec![0, 0, 0, 132, 0, 0]),
+        (equal, vec![57, 9, 9, 32, 32, 32]),
+        (one_block, vec![0, 0, 7]),
+        (one_block, vec![0, 4, 3]),
+        (not_lowest, vec![1, 1, 7]),
+        (not_lowest, vec![2, 3, 4]),
+        (common, vec![0, 0, 31, 0, 0, 0]),
+        (common, vec![2, 0, 0, 31, 1, 0]),
+    ]
+    .map(|(what, histogram)| ((what.to_string(), histogram), 0))
     .to_vec()
 }
 
