@@ -128,13 +128,18 @@ scaled() {
     [[ $status -eq 0 && $(pixels "$work/out") -le 16384 && $("$program" <"$work/out" | wc -l) -eq 2 ]]
 }
 
+# Another program may have the name.
+is_image_magick() {
+    convert -version 2>/dev/null | grep -q ImageMagick
+}
+
 pipelines() {
     local size
     for size in '4000 3000' '1001 999' '4000 3' '129 128' '181 91' '3 9000' '40 30'; do
         if command -v pamscale >/dev/null; then check "pamscale, $size" scaled "$size" pamscale -nomix -pixels 16000; fi
-        if command -v convert >/dev/null; then check "convert, $size" scaled "$size" convert - -sample '16384@>' -depth 8 ppm:-; fi
+        if is_image_magick; then check "convert, $size" scaled "$size" convert - -sample '16384@>' -depth 8 ppm:-; fi
     done
-    command -v convert >/dev/null || echo "not run: scans scaled by ImageMagick, it is not installed"
+    is_image_magick || echo "not run: scans scaled by ImageMagick, it is not installed"
     if command -v pamscale >/dev/null && command -v pnmtopng >/dev/null; then
         try tools/swatch < <(binary_of examples/ikat.swatch | pnmtopng 2>"$work/scaling" | pngtopnm | pamscale -nomix -pixels 16000)
         check "an example as a PNG and back" cmp -s "$work/out" examples/ikat.swatch
