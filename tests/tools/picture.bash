@@ -133,15 +133,29 @@ damaged_cards() {
     local head='     2    10     0\n' grey='     0     0     0     1     8     9    10     4\n' colour='     1     2     1     0   255     0    20     6\n' text
     try tools/picture < <(printf %b "$head$grey$colour")
     check "a card by hand" gives - 'Entry 1: colour, hue mode 2, saturation mode 1, intensity mode 0; mean 255 0 20; 6 of 10 pixels, 60.0%'
-    for text in '' '\n' "$head" "$head$grey" "$head$grey$colour$colour" "$head$colour$grey" "$head$grey$grey" "$head$grey$colour\n" "$head$grey$colour " \
+    for text in '' '\n' "$head" "$head$grey" "$head$grey$colour$colour" "$head$colour$grey" "$head$grey${grey/4\\n/6\\n}" "$head$grey$colour\n" "$head$grey$colour " \
         "${head/10/11}$grey$colour" "${head/ 2/ 3}$grey$colour" "${head/ 2/02}$grey$colour" "${head/ 0/ 1}$grey$colour" "${head/0\\n/0 \\n}$grey$colour" \
         "     0     0     0\n" "$head$grey${colour/ 1/ 2}" "$head${grey/0     0     0/0     1     0}$colour" "$head${grey/0     0     0/0     0     1}$colour" \
         "$head$grey${colour/255/256}" "$head$grey${colour/   0    20/ 256    20}" "$head$grey${colour/ 20/256}" "$head$grey${colour/     2/    60}" \
         "$head$grey${colour/2     1/2    42}" "$head$grey${colour/1     0/1    52}" "$head$grey${colour/  255/0255}" "$head$grey${colour/   20/   +2}" \
         "$head$grey${colour/    20/\\t   20}" "$head$grey${colour/   20/   -2}" "$head$grey${colour/   0 /\\000   }" "$head$grey${colour/6\\n/6\\r\\n}" \
-        "${head/10/ 4}${grey/4\\n/4\\n}${colour/6\\n/0\\n}" "${grey}${head}${colour}" '     3\n\n' '     3' '    03\n' '     7\n' '     0\n' '     3     3\n'; do
+        "${head/10/ 4}${grey/4\\n/4\\n}${colour/6\\n/0\\n}" "${grey}${head}${colour}" '     1 16385     0\n     0     0     0     0     1     1     1 16385\n' \
+        '     3\n\n' '     3' '    03\n' '     7\n' '     0\n' '     3     3\n'; do
         check "no card: $(head -c 60 <<<"$text" | head -n 1)" no_card "$text"
     done
+}
+
+# A card of so many entries, of one pixel each.
+entries() {
+    awk -v n="$1" 'BEGIN { printf "%6d%6d%6d\n", n, n, 0
+        for (i = 0; i < n; i++) printf "%6d%6d%6d%6d%6d%6d%6d%6d\n", 1, int(i / 16), i % 16, 0, i % 256, 9, 7, 1 }'
+}
+
+most_entries() {
+    entries 255 >"$work/255.card"
+    check "255 entries" shows "$work/255.card"
+    try tools/picture < <(entries 256)
+    check "256 entries" ends 2 'this is no card'
 }
 
 # A card that is cut anywhere is no card.
@@ -178,6 +192,7 @@ for AWK in "${awks[@]}"; do
     pictures
     numbers
     damaged_cards
+    most_entries
     cut_cards
     wrong_use
 done
