@@ -110,6 +110,7 @@ changes() {
     local folder=$1
     rm "$folder/all/cloth 007.card" "$folder/all/cloth 008.card"
     : >"$folder/all/cloth 010.card"
+    touch -r "$folder/all/cloth 010.txt" "$folder/all/cloth 010.card"
     sleep 0.01
     touch "$folder/all/cloth 001.swatch"
     mv "$folder/all/cloth 003.swatch" "$work/kept"
@@ -161,13 +162,31 @@ one_swatch() {
     cp examples/tartan.swatch "$1"
 }
 
+# Links to nothing, to a folder, and to a pipe that nobody writes to; and a file that can be opened, and then not be read.
 unreadable() {
-    local folder=$work/unreadable
+    local folder=$work/unreadable unread=(gone.swatch folder.txt pipe.swatch)
     one_swatch "$folder"
+    mkfifo "$folder/pipe"
     ln -s nowhere "$folder/gone.swatch"
+    ln -s . "$folder/folder.txt"
+    ln -s pipe "$folder/pipe.swatch"
+    if [[ -e /proc/$$/mem ]]; then
+        ln -s "/proc/$$/mem" "$folder/memory.swatch"
+        unread+=(memory.swatch)
+    fi
+    mapfile -t unread < <(printf '  %s\n' "${unread[@]}" | sort)
     try archive "$folder"
-    check "a file that cannot be read" \
-        says 1 '2 swatches: 1 cards made, 0 were there already' '1 could not be read, or the program failed:' '  gone.swatch'
+    check "files that cannot be read" says 1 "$((1 + ${#unread[@]})) swatches: 1 cards made, 0 were there already" \
+        "${#unread[@]} could not be read, or the program failed:" "${unread[@]}"
+}
+
+# A find that ends as it does when a folder may not be entered.
+unread_folder() {
+    one_swatch "$work/unlisted"
+    stand_in find <<<"$(command -v find)"' "$@"; exit 1'
+    PATH=$work/bin:$PATH try archive "$work/unlisted"
+    rm "$work/bin/find"
+    check "a folder that cannot be read" says 1 '1 swatches: 1 cards made, 0 were there already' 'there are folders that could not be read'
 }
 
 # Programs that do not print a whole card. not_taken NAME, the program from standard input
@@ -344,6 +363,7 @@ if parallel --version 2>/dev/null | grep -q '^GNU parallel'; then
     changes "$work/archive"
     stored
     unreadable
+    unread_folder
     bad_programs
     changed_meanwhile
     interruptions
