@@ -1,6 +1,6 @@
 -- What the figures of a label's pixels come to: of no pixel, and of one pixel more. Assumes nothing.
 use Prim.Native.Nat.{ℕ, zero, suc, _+_, _*_, _≤_, _<_}
-use mathlib.Core.Path.{_≡_, refl}
+use mathlib.Core.Path.{_≡_, refl, _∙_}
 use mathlib.Core.Bool.{Bool, true, false, cond}
 use mathlib.Core.List.{List, [], _∷_}
 use native.Mathlib.Omega.{arith}
@@ -8,6 +8,7 @@ use native.Mathlib.Numerals.{add-one}
 use lib.Dec.{eqb}
 use lib.ListN.{length, take, getD, set, replicate}
 use Rattle.lists.specs.Lists.{countIf}
+use Rattle.lists.proofs.Tests.{count-le}
 use Rattle.lists.proofs.Writes.{table-length, table-at, table-zeros, table-add}
 use Rattle.pixel.specs.declared.Pixel.{Pixel}
 use Rattle.pixel.specs.Ranges.{Bytes}
@@ -61,3 +62,14 @@ unfolding channelTotals
 totals-more n c xs ps i h l m =
     table-add (λ (k : ℕ). totalUnder (channel c) k (take i xs) ps) (λ (k : ℕ). totalUnder (channel c) k (take (i + 1) xs) ps) n (getD xs i 0)
     (channel c (pixelAt ps i)) m (λ k. total-more (channel c) k xs ps i h l)
+
+-- a label's total is at most 255 for each pixel
+pub totals-room : (n c : ℕ) (xs : List ℕ) (ps : List Pixel) (k : ℕ) → k < n → ((i : ℕ) → Bytes (pixelAt ps i)) → getD (channelTotals n c xs ps) k 0 ≤ 255 * length xs
+totals-room n c xs ps k h bytes =
+    omega (arith, totals-at n c xs ps k h, total-le (channel c) k xs ps (λ i. channel-le c (pixelAt ps i) (bytes i)), count-le (eqb k) xs)
+
+-- one pixel more, as it is written
+pub totals-next : (n c : ℕ) (xs : List ℕ) (ps : List Pixel) (i : ℕ) (totals totals′ : List ℕ) (figure : ℕ)
+    → i < length xs → i < length ps → getD xs i 0 < n → totals ≡ channelTotals n c (take i xs) ps → figure ≡ channel c (pixelAt ps i)
+    → totals′ ≡ set totals (getD xs i 0) (getD totals (getD xs i 0) 0 + figure) → totals′ ≡ channelTotals n c (take (i + 1) xs) ps
+totals-next n c xs ps i totals totals′ figure h l m e f written = written ∙ rw (e, f) (totals-more n c xs ps i h l m)

@@ -28,6 +28,12 @@ totalUnder f k (x ∷ xs) (p ∷ ps) = cond (eqb k x) (f p) 0 + totalUnder f k x
 unfoldable pub channelTotals : ℕ → ℕ → List ℕ → List Pixel → List ℕ
 channelTotals n c xs ps = map (λ k. totalUnder (channel c) k xs ps) (numbers 0 n)
 
+-- the totals of all three, of so many labels
+pub record ChannelsAdded (n : ℕ) (xs : List ℕ) (ps : List Pixel) (reds greens blues : List ℕ) : Type 0 where
+  pub red : reds ≡ channelTotals n 0 xs ps
+  pub green : greens ≡ channelTotals n 1 xs ps
+  pub blue : blues ≡ channelTotals n 2 xs ps
+
 -- a mean, 'halves up'
 unfoldable pub meanBy : ℕ → ℕ → ℕ
 meanBy total count = (2 * total + count) / (2 * count)

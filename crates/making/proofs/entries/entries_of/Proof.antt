@@ -35,32 +35,20 @@ count-cells-requires c κs =
     let a = c .before .before .before .before in
     (a .pre .0 .1, λ i l. let below = a .pre .1 .0 i l in omega arith)
 
-slice-aggregate-add-channel : tie.Need-slice-aggregate-add-channel Inv-loop μ-loop
-slice-aggregate-add-channel c = search needs
+slice-aggregate-add-channels : tie.Need-slice-aggregate-add-channels Inv-loop μ-loop
+slice-aggregate-add-channels c = search needs
 
-add-channel-requires : tie.Need-add-channel-requires Inv-loop μ-loop
+slice-aggregate-add-channels-2 : tie.Need-slice-aggregate-add-channels-2 Inv-loop μ-loop
+slice-aggregate-add-channels-2 c = search needs
+
+slice-aggregate-add-channels-3 : tie.Need-slice-aggregate-add-channels-3 Inv-loop μ-loop
+slice-aggregate-add-channels-3 c = search needs
+
+add-channels-requires : tie.Need-add-channels-requires Inv-loop μ-loop
 unfolding mostEntries
-add-channel-requires c κs =
-    let a = c .before .before .before .before .before .before .before in
-    ((a .pre .0 .0, a .pre .0 .1, λ i l. let below = a .pre .1 .0 i l in omega arith), refl)
-
-slice-aggregate-add-channel-2 : tie.Need-slice-aggregate-add-channel-2 Inv-loop μ-loop
-slice-aggregate-add-channel-2 c = search needs
-
-add-channel-requires-2 : tie.Need-add-channel-requires-2 Inv-loop μ-loop
-unfolding mostEntries
-add-channel-requires-2 c κs =
-    let a = c .before .before .before .before .before .before .before .before .before .before in
-    ((a .pre .0 .0, a .pre .0 .1, λ i l. let below = a .pre .1 .0 i l in omega arith), refl)
-
-slice-aggregate-add-channel-3 : tie.Need-slice-aggregate-add-channel-3 Inv-loop μ-loop
-slice-aggregate-add-channel-3 c = search needs
-
-add-channel-requires-3 : tie.Need-add-channel-requires-3 Inv-loop μ-loop
-unfolding mostEntries
-add-channel-requires-3 c κs =
-    let a = c .before .before .before .before .before .before .before .before .before .before .before .before .before in
-    ((a .pre .0 .0, a .pre .0 .1, λ i l. let below = a .pre .1 .0 i l in omega arith), refl)
+add-channels-requires c κs =
+    let a = c .before .before .before .before .before .before .before .before .before in
+    ((a .pre .0 .0, a .pre .0 .1, λ i l. let below = a .pre .1 .0 i l in omega arith), (refl, refl, refl))
 
 no-entry-requires : tie.Need-no-entry-requires Inv-loop μ-loop
 no-entry-requires c κs = search needs
@@ -79,42 +67,40 @@ mul-entry-2 c = search needs
 
 array-read-entry : tie.Need-array-read-entry Inv-loop μ-loop
 unfolding mostEntries
-array-read-entry c = let few = c .before .before .before .before .before .before .before .before .before .before .before .before .before .before .before .before .before .before .before .pre .0 .2 in omega arith
+array-read-entry c = let few = c .before .before .before .before .before .before .before .before .before .before .before .before .before .before .before .before .before .pre .0 .2 in omega arith
 
 mul-entry-3 : tie.Need-mul-entry-3 Inv-loop μ-loop
 mul-entry-3 c = search needs
 
 array-read-entry-2 : tie.Need-array-read-entry-2 Inv-loop μ-loop
 unfolding mostEntries
-array-read-entry-2 c = let few = c .before .before .before .before .before .before .before .before .before .before .before .before .before .before .before .before .before .before .before .pre .0 .2 in omega arith
+array-read-entry-2 c = let few = c .before .before .before .before .before .before .before .before .before .before .before .before .before .before .before .before .before .pre .0 .2 in omega arith
 
 mul-entry-4 : tie.Need-mul-entry-4 Inv-loop μ-loop
 mul-entry-4 c = search needs
 
 array-read-entry-3 : tie.Need-array-read-entry-3 Inv-loop μ-loop
 unfolding mostEntries
-array-read-entry-3 c = let few = c .before .before .before .before .before .before .before .before .before .before .before .before .before .before .before .before .before .before .before .pre .0 .2 in omega arith
+array-read-entry-3 c = let few = c .before .before .before .before .before .before .before .before .before .before .before .before .before .before .before .before .before .pre .0 .2 in omega arith
 
 mul-entry-5 : tie.Need-mul-entry-5 Inv-loop μ-loop
 mul-entry-5 c = search needs
 
 array-read-entry-4 : tie.Need-array-read-entry-4 Inv-loop μ-loop
 unfolding mostEntries
-array-read-entry-4 c = let few = c .before .before .before .before .before .before .before .before .before .before .before .before .before .before .before .before .before .before .before .pre .0 .2 in omega arith
+array-read-entry-4 c = let few = c .before .before .before .before .before .before .before .before .before .before .before .before .before .before .before .before .before .pre .0 .2 in omega arith
 
 entry-requires : tie.Need-entry-requires Inv-loop μ-loop
 unfolding mostEntries
 entry-requires c κs =
     let l = c .before .before .loop in
-    let a = c .before .before .before .before .before .before .before .before .before .before .before .before .before .before .before .before .before .before .before in
+    let a = c .before .before .before .before .before .before .before .before .before .before .before .before .before .before .before .before .before in
     let codes = a .args .codes .now in
     let labels = a .args .labels .now in
     let bytes = a .args .pixels .now in
-    let counts = c .before .before .before .before .before .before .before .before .before .before .before .before .before .before .count-cells in
-    let reds = c .before .before .before .before .before .before .before .before .before .before .before .add-channel in
-    let greens = c .before .before .before .before .before .before .before .before .add-channel2 in
-    let blues = c .before .before .before .before .before .add-channel3 in
-    let byte : (j : ℕ) → getD bytes j 0 < 256 = λ j. let byte = c .before .before .before .before .before .before .before .before .before .before .before .before .before .before .before .before .before .before .shared-slice-known .given j in omega arith in
+    let counts = c .before .before .before .before .before .before .before .before .before .before .before .before .count-cells in
+    let sums = c .before .before .before .before .before .before .before .add-channels in
+    let byte : (j : ℕ) → getD bytes j 0 < 256 = λ j. let byte = c .before .before .before .before .before .before .before .before .before .before .before .before .before .before .before .before .shared-slice-known .given j in omega arith in
     let few = a .pre .0 .2 in
     let k : l .k < 255 = omega arith in
     let count : getD (counts .last .1 .0) (l .k) 0 ≡ countIf (eqb (l .k)) labels = ap (λ (xs : List ℕ). getD xs (l .k) 0) (counts .ensures) ∙ tally-at 255 labels (l .k) k in
@@ -122,22 +108,22 @@ entry-requires c κs =
       omega (arith, a .pre .1 .1 (l .k) (omega (arith, length-take-le (a .args .n) codes (a .pre .0 .3))), getD-take (a .args .n) codes (l .k) 0 (omega arith)),
       omega arith,
       omega (arith, count-le (eqb (l .k)) labels, a .pre .0 .1),
-      totals-le 255 0 bytes labels (counts .last .1 .0) (reds .last .1 .1 .1 .0) (l .k) k byte (counts .ensures) (reds .ensures),
-      totals-le 255 1 bytes labels (counts .last .1 .0) (greens .last .1 .1 .1 .0) (l .k) k byte (counts .ensures) (greens .ensures),
-      totals-le 255 2 bytes labels (counts .last .1 .0) (blues .last .1 .1 .1 .0) (l .k) k byte (counts .ensures) (blues .ensures),
+      totals-le 255 0 bytes labels (counts .last .1 .0) (sums .last .1 .1 .0) (l .k) k byte (counts .ensures) (sums .ensures .red),
+      totals-le 255 1 bytes labels (counts .last .1 .0) (sums .last .1 .1 .1 .0) (l .k) k byte (counts .ensures) (sums .ensures .green),
+      totals-le 255 2 bytes labels (counts .last .1 .0) (sums .last .1 .1 .1 .1 .0) (l .k) k byte (counts .ensures) (sums .ensures .blue),
     )
 
 mul-entries : tie.Need-mul-entries Inv-loop μ-loop
 unfolding mostEntries
-mul-entries c = let few = c .before .before .before .before .before .before .before .before .before .before .before .before .before .before .before .before .before .before .before .before .pre .0 .2 in omega arith
+mul-entries c = let few = c .before .before .before .before .before .before .before .before .before .before .before .before .before .before .before .before .before .before .pre .0 .2 in omega arith
 
 array-set-from-entries : tie.Need-array-set-from-entries Inv-loop μ-loop
 unfolding mostEntries
-array-set-from-entries c = let few = c .before .before .before .before .before .before .before .before .before .before .before .before .before .before .before .before .before .before .before .before .pre .0 .2 in omega arith
+array-set-from-entries c = let few = c .before .before .before .before .before .before .before .before .before .before .before .before .before .before .before .before .before .before .pre .0 .2 in omega arith
 
 add-k : tie.Need-add-k Inv-loop μ-loop
 unfolding mostEntries
-add-k c = let few = c .before .before .before .before .before .before .before .before .before .before .before .before .before .before .before .before .before .before .before .before .pre .0 .2 in omega arith
+add-k c = let few = c .before .before .before .before .before .before .before .before .before .before .before .before .before .before .before .before .before .before .pre .0 .2 in omega arith
 
 loop-less : tie.Need-loop-less Inv-loop μ-loop
 loop-less c = search needs
@@ -146,19 +132,17 @@ loop-again : tie.Need-loop-again Inv-loop μ-loop
 unfolding mostEntries
 loop-again c =
     let l = c .before .before .before .loop in
-    let a = c .before .before .before .before .before .before .before .before .before .before .before .before .before .before .before .before .before .before .before .before in
+    let a = c .before .before .before .before .before .before .before .before .before .before .before .before .before .before .before .before .before .before in
     let codes = a .args .codes .now in
     let labels = a .args .labels .now in
     let bytes = a .args .pixels .now in
-    let counts = c .before .before .before .before .before .before .before .before .before .before .before .before .before .before .before .count-cells in
-    let reds = c .before .before .before .before .before .before .before .before .before .before .before .before .add-channel in
-    let greens = c .before .before .before .before .before .before .before .before .before .add-channel2 in
-    let blues = c .before .before .before .before .before .before .add-channel3 in
+    let counts = c .before .before .before .before .before .before .before .before .before .before .before .before .before .count-cells in
+    let sums = c .before .before .before .before .before .before .before .before .add-channels in
     let n = entries-length (a .args .n) codes labels (pixelsOf bytes) in
     let few = a .pre .0 .2 in
     let made : c .entry .result ≡ getD (entriesBy (a .args .n) codes labels (pixelsOf bytes)) (l .k) noEntry =
-    entries-at (a .args .n) codes labels (pixelsOf bytes) 255 (counts .last .1 .0) (reds .last .1 .1 .1 .0) (greens .last .1 .1 .1 .0) (blues .last .1 .1 .1 .0) (l .k)
-    (c .entry .result) (omega arith) few (counts .ensures) (reds .ensures) (greens .ensures) (blues .ensures) (c .entry .ensures) in (
+    entries-at (a .args .n) codes labels (pixelsOf bytes) 255 (counts .last .1 .0) (sums .last .1 .1 .0) (sums .last .1 .1 .1 .0) (sums .last .1 .1 .1 .1 .0) (l .k)
+    (c .entry .result) (omega arith) few (counts .ensures) (sums .ensures .red) (sums .ensures .green) (sums .ensures .blue) (c .entry .ensures) in (
       omega arith,
       simp length-set (l .inv .1),
       ap (λ (es : List Entry). set es (l .k) (c .entry .result)) (l .inv .2)
@@ -170,7 +154,7 @@ returns : tie.Need-returns Inv-loop μ-loop
 unfolding mostEntries
 returns c =
     let l = c .before .loop in
-    let a = c .before .before .before .before .before .before .before .before .before .before .before .before .before .before .before .before .before .before in
+    let a = c .before .before .before .before .before .before .before .before .before .before .before .before .before .before .before .before in
     let made = entriesBy (a .args .n) (a .args .codes .now) (a .args .labels .now) (pixelsOf (a .args .pixels .now)) in
     let n = entries-length (a .args .n) (a .args .codes .now) (a .args .labels .now) (pixelsOf (a .args .pixels .now)) in
     l .inv .2 ∙ ap (λ (es : List Entry). over es (replicate 255 (c .before .before .no-entry .result))) (take-all (l .k) made (omega arith))
@@ -184,12 +168,10 @@ entries-of-spec =
     μ-loop
     slice-aggregate-count-cells
     count-cells-requires
-    slice-aggregate-add-channel
-    add-channel-requires
-    slice-aggregate-add-channel-2
-    add-channel-requires-2
-    slice-aggregate-add-channel-3
-    add-channel-requires-3
+    slice-aggregate-add-channels
+    slice-aggregate-add-channels-2
+    slice-aggregate-add-channels-3
+    add-channels-requires
     no-entry-requires
     loop-holds
     mul-entry
