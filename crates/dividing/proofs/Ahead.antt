@@ -1,33 +1,30 @@
 -- One level further keeps what the code may rely on: few nodes, cells inside the table, codes of few digits. Assumes nothing.
-use Prim.Native.Nat.{ℕ, zero, suc, _+_, _*_, _-_, _/_, _%_, _^_, _≤_, _<_}
-use mathlib.Core.Path.{_≡_, refl, sym, ap, ap₂, _∙_}
+use Prim.Native.Nat.{ℕ, zero, suc, _+_, _*_, _-_, _/_, _%_, _≤_, _<_}
+use mathlib.Core.Path.{_≡_, refl, ap, _∙_}
 use mathlib.Core.Bool.{Bool, true, false, cond}
-use mathlib.Core.List.{List, [], _∷_, _++_, map}
+use mathlib.Core.List.{List, _++_, map}
 use native.Mathlib.Omega.{arith}
-use native.Mathlib.Nat.{mul-le-mul-left, div-add-mod, mod-lt, lt-of-mul-lt-mul-right}
+use native.Mathlib.Nat.{mul-le-mul-left, div-add-mod, mod-lt}
 use lib.Dec.{eqb}
-use lib.ListN.{length, take, getD, length-append, length-map, List·getD-append}
-use lib.Seq.{getD-append-add, getD-take, ext-getD, length-take-le, take-all}
-use borrow.Author.Tests.{eq-eqb, eqb-true, eqb-false, ne-eqb, lt-ltb}
-use Rattle.lists.specs.Lists.{total, numbers, countIf, firstIndex}
-use Rattle.lists.proofs.Cases.{by-order, by-cond, last-or}
+use lib.ListN.{length, getD, length-append, length-map, List·getD-append}
+use lib.Seq.{getD-append-add}
+use borrow.Author.Tests.{eqb-true, lt-ltb}
+use Rattle.lists.specs.Lists.{total, numbers, countIf}
+use Rattle.lists.proofs.Cases.{by-order, last-or}
 use Rattle.lists.proofs.Filters.{numbers-length}
 use Rattle.lists.proofs.Places.{map-at, numbers-at}
-use Rattle.lists.proofs.Each.{Each, each-from, each-so}
+use Rattle.lists.proofs.Each.{each-from}
 use Rattle.lists.proofs.Sums.{member-le}
 use Rattle.lists.proofs.Counting.{eqb-turned, one-counted, number-counted, count-same, total-ones, total-exchange}
 use Rattle.lists.proofs.Firsts.{first-below}
 use Rattle.verdict.specs.Test.{Closeness}
-use Rattle.palette.specs.Levels.{Level, hue, saturation, intensity, binCount, modesAt, liesIn}
-use Rattle.dividing.specs.Nodes.{AllBelow, tally, row, levelAt, width, mostNodes, modeOf, waits, nodeRow, modeCount, modesBefore, modeIn, nextNode, nextCodes, mostCodes, Stage, cellsOf, entered, further, Ready}
-use Rattle.dividing.specs.Numbering.{HoldsFirst}
+use Rattle.palette.specs.Levels.{Level, binCount, modesAt, liesIn}
+use Rattle.dividing.specs.Nodes.{AllBelow, tally, row, levelAt, width, mostNodes, modeOf, waits, nodeRow, modeCount, modesBefore, modeIn, nextNode, nextCodes}
 use Rattle.palette.proofs.LevelBins.{bin-in-one-mode}
 use Rattle.palette.proofs.FewModes.{mostModes, most-modes-few}
-use Rattle.dividing.proofs.Tallies.{tally-at, tally-length}
-use Rattle.dividing.proofs.Entering.{cells-length, cells-at}
 use Rattle.dividing.proofs.Rows.{row-at, row-length}
 use Rattle.dividing.proofs.NodeLaws.{mode-count-most}
-use Rattle.dividing.proofs.AllNodes.{width-some, next-codes-length}
+use Rattle.dividing.proofs.AllNodes.{width-some}
 
 -- ---- the table of counts
 -- each member is counted once

@@ -1,11 +1,8 @@
 -- All nodes of a table, one after the other: how many modes they have, and their tables. Assumes nothing.
-use Prim.Native.Nat.{ℕ, zero, suc, _+_, _*_, _-_, _/_, _%_, _≤_, _<_}
+use Prim.Native.Nat.{ℕ, zero, suc, _+_, _*_, _-_, _≤_, _<_}
 use mathlib.Core.Path.{_≡_, refl, sym, ap, ap₂, _∙_}
-use mathlib.Core.Bool.{true, false, cond}
-use mathlib.Core.List.{List, [], _∷_, _++_, map}
+use mathlib.Core.List.{List, _++_, map}
 use native.Mathlib.Omega.{arith}
-use native.Mathlib.Nat.{mul-le-mul-left}
-use native.Mathlib.Numerals.{add-one}
 use lib.ListN.{length, getD, length-append, length-map, List·getD-append}
 use lib.Seq.{getD-append-add}
 use Rattle.lists.specs.Lists.{numbers}
@@ -14,7 +11,7 @@ use Rattle.lists.proofs.Filters.{numbers-length}
 use Rattle.lists.proofs.Places.{map-at, numbers-at}
 use Rattle.verdict.specs.Test.{Closeness}
 use Rattle.dividing.specs.Nodes.{width, mostNodes, mostCodes, modeCount, modesBefore, modeIn, nextNode, nextCodes}
-use Rattle.dividing.specs.Numbering.{NodeAdded, HoldsFirst, ModesNumbered}
+use Rattle.dividing.specs.Numbering.{NodeAdded, ModesNumbered}
 use Rattle.dividing.proofs.NodeLaws.{mode-count-few}
 use Rattle.dividing.proofs.OneLevel.{cell-row, cell-column}
 

@@ -18,7 +18,7 @@ use Rattle.pixel.specs.declared.Pixel.{Pixel}
 use Rattle.pixel.specs.Colour.{isGrey, intensityBin, saturationBin, hueBin}
 use Rattle.pixel.specs.Ranges.{Bytes}
 use Rattle.verdict.specs.Test.{Closeness}
-use Rattle.palette.specs.Levels.{Level, hue, saturation, intensity}
+use Rattle.palette.specs.Levels.{hue}
 use Rattle.palette.specs.Cards.{Branch, allGreys, allColours, members, modesFound, child, branches, entryOf, entries, label, labels}
 use Rattle.dividing.specs.Nodes.{Stage, levelAt, mostCodes, modesBefore, nextNode, nextCodes, cellsOf, entered, further, divided}
 use Rattle.dividing.specs.Dividing.{firstCell, codeOf}

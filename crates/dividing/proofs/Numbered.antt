@@ -1,9 +1,8 @@
 -- The bins of a histogram numbered by mode: at each place of its line, and of a ring's opened line, the mode that has begun is the mode it lies in. Assumes nothing.
-use Prim.Native.Nat.{ℕ, zero, suc, _+_, _*_, _-_, _%_, _≤_, _<_}
+use Prim.Native.Nat.{ℕ, zero, suc, _+_, _-_, _%_, _≤_, _<_}
 use mathlib.Core.Path.{_≡_, refl, sym, ap, _∙_}
 use mathlib.Core.Bool.{Bool, true}
 use mathlib.Core.List.{List}
-use lib.Dec.{eqb}
 use lib.ListN.{length, getD}
 use native.Mathlib.Omega.{arith}
 use borrow.Author.Tests.{eqb-true}
@@ -22,7 +21,7 @@ use Rattle.segmentation.specs.Ring.{opening, opened, ringBin, linePlace, ringMo
 use Rattle.segmentation.proofs.Finishing.{modes-cut, separators-length, separator-at}
 use Rattle.segmentation.proofs.OneMode.{one-mode, in-mode, in-last-mode}
 use Rattle.segmentation.proofs.RingPlaces.{ring-length, place-in, place-bin}
-use Rattle.palette.specs.Levels.{hue, saturation, intensity}
+use Rattle.palette.specs.Levels.{hue, intensity}
 use Rattle.dividing.specs.Nodes.{modeOf}
 use Rattle.dividing.specs.Numbering.{RisesFromZero, Begun, PlacesNumbered, BinsNumbered}
 

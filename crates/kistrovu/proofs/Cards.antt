@@ -1,28 +1,27 @@
 -- What the card call answers and leaves, by its number; a card made twice is one card. Assumes nothing.
 use Prim.Native.Nat.{ℕ, _*_, _/_, _%_, _≤_, _<_}
 use mathlib.Core.Path.{_≡_, refl, sym, ap, _∙_}
-use mathlib.Core.Bool.{Bool, true, false, cond, not, _||_, false≢true}
-use mathlib.Core.List.{List, [], _∷_, _++_}
-use lib.Dec.{eqb, ltb, leb}
+use mathlib.Core.Bool.{Bool, true, false, not, false≢true}
+use mathlib.Core.List.{List, [], _∷_}
+use lib.Dec.{eqb, ltb}
 use lib.ListN.{length, getD}
 use native.Mathlib.Omega.{arith}
 use native.Mathlib.Nat.{div-add-mod}
-use borrow.Author.Tests.{ltb-false, eqb-true, ne-eqb, eq-eqb, lt-ltb, le-ltb, lt-leb, le-leb}
+use borrow.Author.Tests.{ltb-false, eqb-true, ne-eqb, lt-ltb, le-ltb, lt-leb, le-leb}
 use Rattle.lists.specs.Lists.{padded}
 use Rattle.pixel.specs.declared.Pixel.{Pixel}
 use Rattle.verdict.specs.Test.{Closeness, mostCloseness}
 use Rattle.palette.specs.declared.Entry.{Entry}
-use Rattle.making.specs.declared.CardEntries.{CardEntries}
 use Rattle.palette.specs.Cards.{pixelsOf, entries, labels, mostEntries, noEntry}
 use Rattle.palette.specs.Sound.{mostPixels, SoundCard}
 use Rattle.palette.proofs.Always.{always-sound}
 use Rattle.palette.proofs.Triples.{pixels-length, pixels-bytes}
-use Rattle.making.specs.Making.{fits, cardEntries, labelsLeft}
+use Rattle.making.specs.Making.{cardEntries, labelsLeft}
 use Rattle.kistrovu.specs.declared.Card.{Card}
-use Rattle.kistrovu.specs.Grounds.{Ground, firstGround, badBytes, manyPixels, badCloseness, badLabels, manyEntries, askedNumber, cardNumber}
+use Rattle.kistrovu.specs.Grounds.{firstGround, badBytes, manyPixels, badCloseness, badLabels, manyEntries, askedNumber, cardNumber}
 use Rattle.kistrovu.specs.Answers.{servedEntries, cardAnswer, labelList}
 use Rattle.kistrovu.specs.Facts.{CardAgain}
-use Rattle.kistrovu.proofs.Served.{ground-none, ground-passes, ground-holds, grounds-served, grounds-turned-down, neither}
+use Rattle.kistrovu.proofs.Served.{ground-none, grounds-served, grounds-turned-down, neither}
 
 abbrev pub made : ℕ → ℕ → List Entry → Card
 made n len es = record { number = n; len = len; entries = es }

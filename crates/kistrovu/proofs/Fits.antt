@@ -1,8 +1,8 @@
 -- The answer of a fit, served and turned down. Assumes nothing.
 use Prim.Native.Nat.{ℕ}
-use mathlib.Core.Path.{_≡_, refl, sym, ap, _∙_}
+use mathlib.Core.Path.{_≡_, sym, ap, _∙_}
 use mathlib.Core.Bool.{Bool}
-use mathlib.Core.List.{List, [], map, map-map}
+use mathlib.Core.List.{List, map, map-map}
 use borrow.Author.Tests.{eq-eqb, ne-eqb}
 use lib.ListN.{replicate}
 use Rattle.lists.specs.Lists.{over, padded}
@@ -13,7 +13,6 @@ use Rattle.pooling.specs.Blocks.{Direction, direction, fitted, places}
 use Rattle.pooling.proofs.Places.{places-blocks}
 use Rattle.kistrovu.specs.Grounds.{fitNumber}
 use Rattle.kistrovu.specs.Answers.{fitAnswer}
-use Rattle.kistrovu.specs.declared.FitAnswer.{FitAnswer}
 
 -- a figure of each bin's block, in the first places of zeros
 figures : (f : Block → ℕ) (w : Direction) (h : List ℕ) → over (map (λ (p : Place). f (p .block)) (places w h)) (replicate 256 0) ≡ padded 256 0 (map f (fitted w h))

@@ -1,5 +1,5 @@
 -- The answer of a modes call, served and turned down, for a line and for a ring. Assumes nothing.
-use Prim.Native.Nat.{ℕ, _≤_, _<_}
+use Prim.Native.Nat.{ℕ, _≤_}
 use mathlib.Core.Path.{_≡_, refl, sym, _∙_}
 use mathlib.Core.List.{List}
 use native.Mathlib.Omega.{arith}
@@ -15,7 +15,6 @@ use Rattle.segmentation.proofs.Always.{always-finished, ring-always-finished, r
 use Rattle.kistrovu.specs.Grounds.{modesNumber}
 use Rattle.kistrovu.specs.Answers.{modesAnswer, lineAnswer, ringAnswer, lineList}
 use Rattle.kistrovu.specs.Facts.{RingList}
-use Rattle.kistrovu.specs.declared.ModesAnswer.{ModesAnswer}
 use Rattle.kistrovu.proofs.Served.{Accepted, fit-served, verdict-served, modes-served}
 
 answer-served : (xs : List ℕ) (number k : ℕ) → number ≡ 0 → k ≡ length xs → record { number = 0; separators = k } ≡ modesAnswer xs number

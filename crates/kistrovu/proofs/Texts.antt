@@ -1,7 +1,7 @@
 -- What the text call says and prints, from the reading of the text and the card of its pixels; long texts, and room for what is printed. Assumes nothing.
-use Prim.Native.Nat.{ℕ, zero, suc, _+_, _*_, _≤_, _<_}
+use Prim.Native.Nat.{ℕ, zero, suc, _≤_}
 use mathlib.Core.Path.{_≡_, refl, sym, ap, _∙_}
-use mathlib.Core.Bool.{Bool, true, false, cond, _||_}
+use mathlib.Core.Bool.{Bool, true, false, cond}
 use mathlib.Core.List.{List, [], _∷_}
 use lib.Dec.{eqb, ltb, eqb·suc-zero}
 use lib.ListN.{length, take}
@@ -16,7 +16,6 @@ use Rattle.palette.specs.declared.Entry.{Entry}
 use Rattle.making.specs.declared.CardEntries.{CardEntries}
 use Rattle.making.specs.Making.{cardEntries}
 use Rattle.palette.specs.Cards.{pixelsOf, entries, mostEntries, noEntry}
-use Rattle.palette.specs.Sound.{SoundCard}
 use Rattle.swatch.specs.Input.{headerOf, sizeOf, pixelBytes, bytesOf}
 use Rattle.swatch.specs.declared.Reading.{Reading}
 use Rattle.swatch.specs.Reading.{mostSwatchPixels, badSize, swatchNumber, readingOf, longestSwatch}
@@ -27,8 +26,8 @@ use Rattle.kistrovu.specs.declared.Said.{Said}
 use Rattle.kistrovu.specs.declared.Printed.{Printed}
 use Rattle.kistrovu.specs.Grounds.{firstGround, programCloseness, textNumber}
 use Rattle.kistrovu.specs.Answers.{printed, printedAnswer}
-use Rattle.kistrovu.specs.Facts.{IfServed, LongText, PrintedFits}
-use Rattle.kistrovu.specs.Texts.{Prints, Refused, PixelsPrinted, TextPrinted}
+use Rattle.kistrovu.specs.Facts.{LongText, PrintedFits}
+use Rattle.kistrovu.specs.Texts.{Refused, PixelsPrinted, TextPrinted}
 use Rattle.kistrovu.proofs.Served.{neither}
 
 -- ---- the number of a text

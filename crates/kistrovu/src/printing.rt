@@ -5,7 +5,6 @@ use swatch::MOST_SWATCH_PIXELS;
 ghost use mathlib.Core.Path.{_≡_};
 ghost use Prim.Native.Nat.{_≤_, _*_};
 ghost use lib.ListN.{length};
-ghost use Rattle.lists.specs.Lists.{over};
 ghost use Rattle.swatch.specs.Output.{printedMost};
 ghost use Rattle.swatch.specs.Reading.{mostSwatchPixels};
 ghost use Rattle.kistrovu.specs.Texts.{Refused, PixelsPrinted, TextPrinted};

@@ -9,7 +9,7 @@ use native.Mathlib.Numerals.{add-one}
 use native.Mathlib.Nat.{mod-eq-of-lt, lt-of-le-of-lt, lt-of-lt-of-le, le-of-eq, pow-lt-pow-left, mul-lt-mul-of-pos-right, mul-le-mul-left, le-of-lt}
 use Rattle.lists.proofs.Powers.{pow-pow, pow-lt-cancel}
 use Rattle.logarithm.specs.declared.Logarithm.{Logarithm}
-use Rattle.logarithm.specs.Log.{roundCount, unitsPerBit, floorLog, rounds, lg}
+use Rattle.logarithm.specs.Log.{roundCount, unitsPerBit, floorLog, lg}
 use Rattle.logarithm.specs.Worker.{Ready, start, round, after}
 use Rattle.logarithm.proofs.Gathered.{lg-worker}
 use Rattle.logarithm.proofs.Within.{Floor, floor-is, floor-le, after-start, after-low, always-bounded}
@@ -85,7 +85,3 @@ units-positive = pow-pos roundCount
 -- a logarithm is below that of 2^32
 pub lg-below : (x : ℕ) → 1 ≤ x → x < 2 ^ 32 → lg x < 32 * unitsPerBit
 lg-below x h k = bits-below x unitsPerBit (lg x) k units-positive (always-bounded x h k .low)
-
-pub lg-one : lg 1 ≡ 0
-unfolding lg rounds floorLog unitsPerBit roundCount
-lg-one = refl

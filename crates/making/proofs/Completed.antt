@@ -1,8 +1,8 @@
 -- Pixels that are divided make the card: its entries and its labels, and what making them relies on. Assumes nothing.
-use Prim.Native.Nat.{ℕ, zero, suc, _+_, _^_, _≤_, _<_}
+use Prim.Native.Nat.{ℕ, _+_, _^_, _≤_, _<_}
 use mathlib.Core.Path.{_≡_, refl, sym, ap, _∙_}
 use mathlib.Core.Bool.{Bool, true, false, cond}
-use mathlib.Core.List.{List, [], _∷_, _++_, map}
+use mathlib.Core.List.{List, [], _++_, map}
 use native.Mathlib.Omega.{arith}
 use lib.Dec.{eqb, leb}
 use lib.ListN.{length, take}
@@ -16,7 +16,7 @@ use Rattle.pixel.specs.Ranges.{Bytes}
 use Rattle.verdict.specs.Test.{Closeness}
 use Rattle.palette.specs.declared.Entry.{Entry}
 use Rattle.making.specs.declared.CardEntries.{CardEntries}
-use Rattle.palette.specs.Cards.{branches, entries, labels, mostEntries, noEntry}
+use Rattle.palette.specs.Cards.{branches, entries, mostEntries, noEntry}
 use Rattle.palette.specs.Sound.{pixelAt}
 use Rattle.dividing.specs.Nodes.{AllBelow, tally, mostCodes}
 use Rattle.dividing.specs.Dividing.{codeOf, PixelsDivided}

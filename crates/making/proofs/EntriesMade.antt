@@ -143,10 +143,6 @@ entries-by-codes e ps bytesAt codes agree =
     ∙ entry-made e ps bytes k below (getD codes k 0) (agree k l ∙ map-at codeOf (branches e ps) k allGreys 0 below)
     ∙ sym (map-at (entryOf ps) (branches e ps) k allGreys noEntry below))
 
-pub entries-by : (e : Closeness) (ps : List Pixel) → ((i : ℕ) → i < length ps → Bytes (pixelAt ps i))
-    → entriesBy (length (entries e ps)) (map codeOf (branches e ps)) (labels e ps) ps ≡ entries e ps
-entries-by e ps bytesAt = entries-by-codes e ps bytesAt (map codeOf (branches e ps)) (λ k l. refl)
-
 -- codes of which the first n are kept agree so far
 pub codes-agree : (n : ℕ) (codes all : List ℕ) → n ≤ mostCodes → take n codes ≡ take mostCodes all → (k : ℕ) → k < n → getD codes k 0 ≡ getD all k 0
 codes-agree n codes all few q k l = sym (getD-take n codes k 0 l) ∙ ap (λ (xs : List ℕ). getD xs k 0) q ∙ getD-take mostCodes all k 0 (omega arith)

@@ -1,18 +1,16 @@
--- How the code makes entries from the kept measures, the labels and the codes. No public promise cites it. Assumes nothing.
+-- How the code makes entries from the labels and the codes. No public promise cites it. Assumes nothing.
 use Prim.Native.Nat.{ℕ, zero, suc, _+_, _*_, _/_, _%_, _<_}
 use mathlib.Core.Path.{_≡_}
 use mathlib.Core.Bool.{Bool, cond}
 use mathlib.Core.List.{List, [], _∷_, map}
 use lib.Dec.{eqb, leb}
-use lib.ListN.{length, take, getD}
+use lib.ListN.{length, getD}
 use Rattle.lists.specs.Lists.{numbers, countIf, padded}
 use Rattle.pixel.specs.declared.Pixel.{Pixel}
-use Rattle.pixel.specs.Colour.{isGrey, intensityBin, saturationBin, hueBin}
 use Rattle.verdict.specs.Test.{Closeness}
 use Rattle.palette.specs.declared.Entry.{Entry}
 use Rattle.making.specs.declared.CardEntries.{CardEntries}
-use Rattle.palette.specs.Cards.{Branch, branches, entries, labels, mostEntries, noEntry}
-use Rattle.dividing.specs.Nodes.{mostCodes}
+use Rattle.palette.specs.Cards.{entries, labels, mostEntries, noEntry}
 
 abbrev pub channel : ℕ → Pixel → ℕ
 channel zero p = p .red

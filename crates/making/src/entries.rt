@@ -5,7 +5,6 @@ use palette::Entry;
 use palette::MOST_ENTRIES;
 use palette::no_entry;
 ghost use mathlib.Core.Path.{_≡_};
-ghost use mathlib.Core.List.{[]};
 ghost use Prim.Native.Nat.{_≤_, _<_, _*_, _+_, _^_};
 ghost use lib.ListN.{length, take, getD, set, replicate};
 ghost use Rattle.lists.specs.Lists.{padded};

@@ -14,7 +14,6 @@ use Rattle.segmentation.specs.Segments.{binAt, firstHighest, firstSepara
 use Rattle.segmentation.specs.Held.{segmentsHeld}
 use Rattle.segmentation.specs.Walk.{InLine, PeaksHeld}
 use Rattle.segmentation.proofs.FirstHumps.{peakOf}
-use Rattle.segmentation.proofs.Walking.{separators-length}
 use Rattle.segmentation.proofs.FirstCut.{separatorAt, first-neighbours, from-length}
 
 -- ---- the first highest bin, one bin more at a time
@@ -85,8 +84,3 @@ module _ (h separators : List ℕ) (n : ℕ) (two : 2 ≤ length h) (room : n < 
       ap (segmentsHeld separators peaks 0) (sym z) ∙ held-from h separators peaks 0 0 ts
       (λ m l. let y : 0 + m ≡ m = omega arith in rw y (held-at m (omega arith)))
       (λ m l. let y : 0 + m ≡ m = omega arith in rw y (p m (omega arith)))
-
--- fewer segments than bins
-pub first-count : (h : List ℕ) → 2 ≤ length h → length (firstSegments h) < length h
-unfolding firstSegments firstSeparators
-first-count h two = omega (arith, from-length h 0 (drop 1 (firstSeparators h)), separators-length h two)

@@ -1,15 +1,10 @@
 -- `divide_pixels` meets its contract. Assumes nothing.
 use Prim.Native.Nat.{ℕ, _≤_, _<_}
-use mathlib.Core.Path.{_≡_, sym, ap, _∙_}
-use mathlib.Core.List.{List, [], _∷_, map}
+use mathlib.Core.Path.{_∙_}
 use native.Mathlib.Omega.{arith}
-use lib.ListN.{length, take, getD, set, length-set}
-use Rattle.pixel.specs.Ranges.{Bytes}
-use Rattle.pixel.specs.Colour.{saturationBin, intensityBin}
+use lib.ListN.{length, getD, set, length-set}
 use Rattle.palette.specs.Cards.{pixelsOf}
-use Rattle.palette.specs.Sound.{pixelAt, mostPixels}
-use Rattle.dividing.specs.Nodes.{Stage, stage, divided, Ready, StageHeld}
-use Rattle.dividing.specs.Dividing.{firstCell, PixelsDivided}
+use Rattle.palette.specs.Sound.{mostPixels}
 use Rattle.palette.proofs.Triples.{pixels-length, pixels-bytes}
 use Rattle.dividing.proofs.Descent.{stage-card}
 use Rattle.dividing.proofs.FirstStage.{first-ready, first-codes}

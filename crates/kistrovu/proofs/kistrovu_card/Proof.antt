@@ -1,16 +1,11 @@
 -- `kistrovu_card` keeps its promise. Assumes nothing.
 use Prim.Native.Nat.{ℕ, _≤_, _<_}
 use mathlib.Core.Path.{_≡_, refl, sym, ap, _∙_}
-use mathlib.Core.List.{List}
 use native.Mathlib.Omega.{arith}
 use lib.ListN.{length, getD}
 use Rattle.lists.specs.Lists.{padded}
-use Rattle.palette.specs.declared.Entry.{Entry}
 use Rattle.making.specs.declared.CardEntries.{CardEntries}
 use Rattle.palette.specs.Cards.{pixelsOf, entries, mostEntries, noEntry}
-use Rattle.palette.specs.Sound.{SoundCard, mostPixels}
-use Rattle.making.specs.Making.{cardEntries}
-use Rattle.kistrovu.specs.declared.Card.{Card}
 use Rattle.kistrovu.specs.Grounds.{cardNumber}
 use Rattle.kistrovu.proofs.Cards.{
   made,

@@ -1,14 +1,11 @@
 -- `kistrovu_print_card` keeps its promise. Assumes nothing.
 use Prim.Native.Nat.{ℕ}
-use mathlib.Core.Path.{_≡_, refl, sym, _∙_}
-use mathlib.Core.List.{List}
+use mathlib.Core.Path.{refl, sym, _∙_}
 use native.Mathlib.Omega.{arith}
-use lib.ListN.{length, replicate, length-replicate}
-use Rattle.lists.specs.Lists.{padded}
+use lib.ListN.{length-replicate}
 use Rattle.lists.proofs.Buffers.{over-padded}
 use Rattle.palette.specs.Cards.{mostEntries}
 use Rattle.swatch.specs.Output.{printedMost}
-use Rattle.kistrovu.specs.declared.Printed.{Printed}
 use Rattle.kistrovu.specs.Answers.{printed, printedAnswer}
 use borrow.Author.Needs.{needs}
 use Rattle.kistrovu.proofs.kistrovu_print_card.Statement.{statement}

@@ -1,17 +1,15 @@
 -- `hue_modes` meets its contract: the opened line fills its list. Assumes nothing.
-use Prim.Native.Nat.{ℕ, suc, _+_, _*_, _-_, _≤_, _<_}
-use mathlib.Core.Path.{_≡_, sym, ap, _∙_}
-use mathlib.Core.List.{List}
+use Prim.Native.Nat.{suc, _-_, _≤_}
+use mathlib.Core.Path.{_≡_, ap, _∙_}
 use native.Mathlib.Omega.{arith}
 use lib.ListN.{length, replicate}
-use Rattle.lists.specs.Lists.{over}
 use Rattle.lists.proofs.Writes.{over-all}
-use Rattle.segmentation.specs.Joining.{lineModes, lineSeparators}
-use Rattle.segmentation.specs.Ring.{opening, opened, ringModes}
+use Rattle.segmentation.specs.Joining.{lineModes}
+use Rattle.segmentation.specs.Ring.{opened, ringModes}
 use Rattle.segmentation.proofs.Finishing.{modes-cut, separators-length}
 use Rattle.segmentation.proofs.RingPlaces.{ring-length, ring-small, opening-in}
 use Rattle.palette.specs.Sound.{mostPixels}
-use Rattle.dividing.specs.Numbering.{RisesFromZero, PlacesNumbered, BinsNumbered}
+use Rattle.dividing.specs.Numbering.{RisesFromZero}
 use Rattle.palette.proofs.FewModes.{line-few}
 use Rattle.dividing.proofs.Numbered.{held-rise, ring-numbered}
 use borrow.Author.Needs.{needs}

@@ -1,15 +1,12 @@
 -- `line_modes` meets its contract. Assumes nothing.
-use Prim.Native.Nat.{ℕ, suc, _+_, _*_, _-_, _≤_, _<_}
-use mathlib.Core.Path.{_≡_, sym, ap, _∙_}
-use mathlib.Core.List.{List}
+use Prim.Native.Nat.{_-_}
+use mathlib.Core.Path.{_≡_}
 use native.Mathlib.Omega.{arith}
 use lib.ListN.{length}
-use Rattle.lists.specs.Lists.{over}
-use Rattle.segmentation.specs.Joining.{lineModes, lineSeparators}
+use Rattle.segmentation.specs.Joining.{lineModes}
 use Rattle.segmentation.proofs.Finishing.{modes-cut, separators-length}
-use Rattle.palette.specs.Levels.{intensity}
 use Rattle.palette.specs.Sound.{mostPixels}
-use Rattle.dividing.specs.Numbering.{RisesFromZero, PlacesNumbered, BinsNumbered}
+use Rattle.dividing.specs.Numbering.{RisesFromZero}
 use Rattle.palette.proofs.FewModes.{line-few}
 use Rattle.dividing.proofs.Numbered.{held-rise, line-numbered}
 use borrow.Author.Needs.{needs}

@@ -1,12 +1,11 @@
 -- `card_asked` meets its contract: the grounds in their sequence. Assumes nothing.
-use Prim.Native.Nat.{ℕ, _/_, _%_}
-use mathlib.Core.Path.{_≡_, refl, sym}
+use Prim.Native.Nat.{_/_, _%_}
+use mathlib.Core.Path.{refl}
 use borrow.Author.Tests.{eq-eqb, ne-eqb, lt-ltb, le-ltb}
 use lib.ListN.{length}
 use Rattle.verdict.specs.Test.{mostCloseness}
 use Rattle.palette.specs.Sound.{mostPixels}
 use Rattle.kistrovu.specs.Grounds.{firstGround, askedNumber}
-use borrow.Author.Needs.{needs}
 use Rattle.kistrovu.proofs.grounds.card_asked.Statement.{statement}
 use Rattle.kistrovu.proofs.grounds.card_asked.Tie as tie
 

@@ -1,5 +1,4 @@
 -- `fit_number` meets its contract: the grounds in their sequence. Assumes nothing.
-use mathlib.Core.Path.{sym}
 use borrow.Author.Needs.{needs}
 use borrow.Author.Tests.{lt-ltb, le-ltb}
 use Rattle.kistrovu.specs.Grounds.{firstGround, fitNumber}

@@ -1,6 +1,6 @@
 -- `sum` meets its contract. The loop's invariant: the sum is that of the counts passed. Assumes nothing.
 use mathlib.Core.Path.{_≡_, refl, sym, ap, _∙_}
-use Prim.Native.Nat.{ℕ, _*_, _-_, _≤_, _^_}
+use Prim.Native.Nat.{_*_, _-_, _≤_, _^_}
 use native.Mathlib.Omega.{arith}
 use borrow.Author.Needs.{needs}
 use lib.ListN.{length, take}

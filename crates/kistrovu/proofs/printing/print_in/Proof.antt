@@ -1,15 +1,12 @@
 -- `print_in` meets its contract. Assumes nothing.
-use Prim.Native.Nat.{ℕ, _*_, _≤_, _<_}
-use mathlib.Core.Path.{_≡_, refl, sym, ap, _∙_}
-use mathlib.Core.List.{List}
+use Prim.Native.Nat.{ℕ, _*_}
+use mathlib.Core.Path.{_≡_, sym, ap, _∙_}
 use native.Mathlib.Omega.{arith}
-use lib.ListN.{length, take}
 use lib.Seq.{length-take-le}
-use Rattle.swatch.specs.Input.{sizeOf, bytesOf}
+use Rattle.swatch.specs.Input.{sizeOf}
 use Rattle.swatch.specs.declared.Reading.{Reading}
-use Rattle.swatch.specs.Reading.{mostSwatchPixels, swatchNumber, readingOf}
+use Rattle.swatch.specs.Reading.{swatchNumber, readingOf}
 use Rattle.swatch.proofs.Numbers.{reading-served}
-use Rattle.kistrovu.specs.Texts.{Refused, PixelsPrinted}
 use Rattle.kistrovu.proofs.Texts.{swatch-number-le, swatch-few, text-refused, text-made}
 use borrow.Author.Needs.{needs}
 use Rattle.kistrovu.proofs.printing.print_in.Statement.{statement}

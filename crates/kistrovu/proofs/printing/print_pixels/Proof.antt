@@ -1,7 +1,7 @@
 -- `print_pixels` meets its contract. Assumes nothing.
 use Prim.Native.Nat.{ℕ, _≤_, _<_}
 use mathlib.Core.Path.{_≡_, refl, sym, ap, _∙_}
-use mathlib.Core.List.{List, [], _∷_}
+use mathlib.Core.List.{List}
 use native.Mathlib.Omega.{arith}
 use borrow.Author.Tests.{lt-ltb, le-ltb}
 use lib.ListN.{length, take, getD}
@@ -10,7 +10,7 @@ use Rattle.verdict.specs.Test.{mostCloseness}
 use Rattle.palette.specs.declared.Entry.{Entry}
 use Rattle.making.specs.declared.CardEntries.{CardEntries}
 use Rattle.palette.specs.Cards.{pixelsOf, entries, mostEntries}
-use Rattle.palette.specs.Sound.{mostPixels, SoundCard}
+use Rattle.palette.specs.Sound.{mostPixels}
 use Rattle.palette.proofs.Always.{always-sound}
 use Rattle.palette.proofs.Triples.{pixels-length, pixels-bytes}
 use Rattle.swatch.specs.Reading.{mostSwatchPixels}

@@ -1,6 +1,5 @@
 -- `refuse` meets its contract. Assumes nothing.
 use native.Mathlib.Omega.{arith}
-use lib.ListN.{length}
 use mathlib.Core.List.{[], _∷_}
 use Rattle.palette.specs.Cards.{mostEntries}
 use Rattle.swatch.specs.Output.{printedMost}

@@ -1,15 +1,14 @@
 -- `card_in` meets its contract. Assumes nothing.
-use Prim.Native.Nat.{ℕ, _*_, _≤_, _<_}
+use Prim.Native.Nat.{ℕ, _*_, _<_}
 use mathlib.Core.Path.{_≡_, sym, ap, _∙_}
-use mathlib.Core.List.{List, _++_}
+use mathlib.Core.List.{List}
 use native.Mathlib.Omega.{arith}
-use lib.ListN.{length, take, drop, getD}
+use lib.ListN.{length, drop, getD}
 use lib.Seq.{length-take-le}
 use Rattle.pixel.specs.Ranges.{Bytes}
 use Rattle.palette.specs.Cards.{pixelsOf, mostEntries}
 use Rattle.palette.specs.Sound.{pixelAt}
-use Rattle.dividing.specs.Nodes.{AllBelow}
-use Rattle.making.specs.Making.{AllBorne, entriesMade, labelsMade}
+use Rattle.making.specs.Making.{entriesMade, labelsMade}
 use Rattle.palette.proofs.Triples.{pixels-bytes}
 use Rattle.making.proofs.Completed.{front-of, divided-below, divided-borne, divided-few, divided-codes, card-made, labels-made}
 use borrow.Author.Needs.{needs}

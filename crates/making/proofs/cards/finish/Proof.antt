@@ -1,15 +1,14 @@
 -- `finish` meets its contract. Assumes nothing.
-use Prim.Native.Nat.{ℕ, _≤_, _<_}
-use mathlib.Core.Path.{_≡_, refl, ap}
+use Prim.Native.Nat.{ℕ, _≤_}
+use mathlib.Core.Path.{refl, ap}
 use mathlib.Core.List.{List}
 use native.Mathlib.Omega.{arith}
 use borrow.Author.Tests.{le-leb, lt-leb}
-use lib.ListN.{length}
 use Rattle.palette.specs.declared.Entry.{Entry}
 use Rattle.making.specs.declared.CardEntries.{CardEntries}
-use Rattle.palette.specs.Cards.{pixelsOf, mostEntries}
+use Rattle.palette.specs.Cards.{mostEntries}
 use Rattle.palette.specs.Sound.{mostPixels}
-use Rattle.making.specs.Making.{entriesBy, entriesMade, labelsMade}
+use Rattle.making.specs.Making.{entriesMade, labelsMade}
 use borrow.Author.Needs.{needs}
 use Rattle.making.proofs.cards.finish.Statement.{statement}
 use Rattle.making.proofs.cards.finish.Tie as tie
