@@ -31,17 +31,17 @@ static uint8_t labels[KISTROVU_MOST_SWATCH_PIXELS];
 /* What to tell an operator. A text can be turned down with 1, 2, 3 or 11; the others are slips of a program's own. */
 static const char *const sentences[] = {
     [KISTROVU_SERVED] = "served",
-    [KISTROVU_HEADER] = "the header line of a swatch is not two fields",
-    [KISTROVU_SIZE] = "its width x height is 0 or above 16,384",
-    [KISTROVU_LINES] = "a pixel line is not three fields of 0 to 255, or lines are missing or left over",
-    [KISTROVU_BYTES] = "the pixel bytes are none or not a multiple of 3",
-    [KISTROVU_PIXELS] = "there are more than 65,536 pixels",
-    [KISTROVU_BINS] = "a histogram has fewer than 2 or more than 256 bins",
-    [KISTROVU_SUM] = "its counts sum to more than 65,536",
-    [KISTROVU_CLOSENESS] = "the closeness is above 20",
-    [KISTROVU_LABELS] = "the label buffer's length is not the pixel count",
-    [KISTROVU_SEPARATORS] = "the separator list has fewer places than the histogram has bins",
-    [KISTROVU_ENTRIES] = "the card as defined has more than 255 entries",
+    [KISTROVU_HEADER] = "the first line of the swatch is not a header of two fields",
+    [KISTROVU_SIZE] = "the width times the height is 0 or above 16,384",
+    [KISTROVU_LINES] = "a pixel line is not three numbers from 0 to 255, or there are fewer or more lines than pixels",
+    [KISTROVU_BYTES] = "there are no pixel bytes, or their number is not a multiple of 3",
+    [KISTROVU_PIXELS] = "the image has more than 65,536 pixels",
+    [KISTROVU_BINS] = "the histogram has fewer than 2 bins or more than 256",
+    [KISTROVU_SUM] = "the counts of the histogram add up to more than 65,536",
+    [KISTROVU_CLOSENESS] = "the closeness is larger than 20",
+    [KISTROVU_LABELS] = "the label buffer does not have one place for each pixel",
+    [KISTROVU_SEPARATORS] = "the separator list is shorter than the histogram",
+    [KISTROVU_ENTRIES] = "the card would have more than 255 entries",
 };
 
 static int complain(int status, const char *what, const char *why)

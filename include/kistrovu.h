@@ -63,17 +63,17 @@ uint32_t kistrovu_version(void);
 /* The grounds for turning a call down. Numbers are never given a new meaning. */
 enum kistrovu_ground {
     KISTROVU_SERVED = 0,
-    KISTROVU_HEADER = 1,       /* the header line of a swatch is not two fields */
-    KISTROVU_SIZE = 2,         /* its width x height is 0 or above 16,384 */
-    KISTROVU_LINES = 3,        /* a pixel line is not three fields of 0 to 255, or lines are missing or left over */
-    KISTROVU_BYTES = 4,        /* the pixel bytes are none or not a multiple of 3 */
-    KISTROVU_PIXELS = 5,       /* there are more than 65,536 pixels */
-    KISTROVU_BINS = 6,         /* a histogram has fewer than 2 or more than 256 bins */
-    KISTROVU_SUM = 7,          /* its counts sum to more than 65,536 */
-    KISTROVU_CLOSENESS = 8,    /* the closeness is above 20 */
-    KISTROVU_LABELS = 9,       /* the label buffer's length is not the pixel count */
-    KISTROVU_SEPARATORS = 10,  /* the separator list has fewer places than the histogram has bins */
-    KISTROVU_ENTRIES = 11      /* the card as defined has more than 255 entries */
+    KISTROVU_HEADER = 1,       /* the first line of the swatch is not a header of two fields */
+    KISTROVU_SIZE = 2,         /* the width times the height is 0 or above 16,384 */
+    KISTROVU_LINES = 3,        /* a pixel line is not three numbers from 0 to 255, or there are fewer or more lines than pixels */
+    KISTROVU_BYTES = 4,        /* there are no pixel bytes, or their number is not a multiple of 3 */
+    KISTROVU_PIXELS = 5,       /* the image has more than 65,536 pixels */
+    KISTROVU_BINS = 6,         /* the histogram has fewer than 2 bins or more than 256 */
+    KISTROVU_SUM = 7,          /* the counts of the histogram add up to more than 65,536 */
+    KISTROVU_CLOSENESS = 8,    /* the closeness is larger than 20 */
+    KISTROVU_LABELS = 9,       /* the label buffer does not have one place for each pixel */
+    KISTROVU_SEPARATORS = 10,  /* the separator list is shorter than the histogram */
+    KISTROVU_ENTRIES = 11      /* the card would have more than 255 entries */
 };
 
 /* The limits. A swatch's text has 13 bytes for its header and 13 for each pixel. */

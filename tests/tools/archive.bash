@@ -2,7 +2,7 @@
 # Tests of tools/archive; read by tests/tools/run, which has check, try, ends and gives.
 # shellcheck disable=SC2154,SC2016
 
-sentence_3='A pixel line is not three fields of 0 to 255, or lines are missing or left over.'
+sentence_3='A pixel line is not three numbers from 0 to 255, or there are fewer or more lines than pixels.'
 torn="sub folder/it's \"torn\".swatch"
 
 # Swatches of 1 to 12 rows and columns, of a few colours each, by a generator with a fixed seed. make_swatches FOLDER COUNT
@@ -127,7 +127,7 @@ changes() {
     try archive "$folder"
     check "two that are turned down, in order of names" \
         says 1 '201 swatches: 0 cards made, 199 were there already' '2 turned down:' \
-        '  -first.txt: 2: Its width × height is 0 or above 16,384.' "  all/cloth 009.swatch: 3: $sentence_3"
+        '  -first.txt: 2: The width times the height is 0 or above 16,384.' "  all/cloth 009.swatch: 3: $sentence_3"
     check "the card of a swatch that is now damaged is gone" all_right "$folder"
 }
 

@@ -15,7 +15,7 @@ macro_rules! grounds {
         /// let ground = fit(&[5], Direction::Increasing).unwrap_err();
         /// assert_eq!(ground, Ground::Bins);
         /// assert_eq!(ground.number(), 6);
-        /// assert_eq!(ground.to_string(), "6. A histogram has fewer than 2 or more than 256 bins.");
+        /// assert_eq!(ground.to_string(), "6. The histogram has fewer than 2 bins or more than 256.");
         /// ```
         #[derive(Clone, Copy, Debug, PartialEq, Eq, Hash)]
         #[non_exhaustive]
@@ -41,7 +41,7 @@ macro_rules! grounds {
             ///
             /// ```
             /// # use kistrovu::Ground;
-            /// assert_eq!(Ground::Closeness.sentence(), "The closeness is above 20.");
+            /// assert_eq!(Ground::Closeness.sentence(), "The closeness is larger than 20.");
             /// ```
             pub const fn sentence(self) -> &'static str {
                 match self {
@@ -54,17 +54,17 @@ macro_rules! grounds {
 }
 
 grounds! {
-    Header = 1: "The header line of a swatch is not two fields.",
-    Size = 2: "Its width × height is 0 or above 16,384.",
-    Lines = 3: "A pixel line is not three fields of 0 to 255, or lines are missing or left over.",
-    Bytes = 4: "The pixel bytes are none or not a multiple of 3.",
-    Pixels = 5: "There are more than 65,536 pixels.",
-    Bins = 6: "A histogram has fewer than 2 or more than 256 bins.",
-    Sum = 7: "Its counts sum to more than 65,536.",
-    Closeness = 8: "The closeness is above 20.",
-    Labels = 9: "The label buffer's length is not the pixel count.",
-    Separators = 10: "The separator list has fewer places than the histogram has bins.",
-    Entries = 11: "The card as defined has more than 255 entries.",
+    Header = 1: "The first line of the swatch is not a header of two fields.",
+    Size = 2: "The width times the height is 0 or above 16,384.",
+    Lines = 3: "A pixel line is not three numbers from 0 to 255, or there are fewer or more lines than pixels.",
+    Bytes = 4: "There are no pixel bytes, or their number is not a multiple of 3.",
+    Pixels = 5: "The image has more than 65,536 pixels.",
+    Bins = 6: "The histogram has fewer than 2 bins or more than 256.",
+    Sum = 7: "The counts of the histogram add up to more than 65,536.",
+    Closeness = 8: "The closeness is larger than 20.",
+    Labels = 9: "The label buffer does not have one place for each pixel.",
+    Separators = 10: "The separator list is shorter than the histogram.",
+    Entries = 11: "The card would have more than 255 entries.",
 }
 
 impl Ground {

@@ -1,5 +1,5 @@
-//! The grounds against the two other lists that there are of them: the header's names and numbers, and the sentences that
-//! the engine's specification quotes.
+//! The grounds against the two other lists that there are of them: the header's names and numbers, and the sentences of
+//! docs/METHOD.md.
 
 mod common;
 
@@ -21,12 +21,12 @@ fn of_the_header() -> BTreeMap<u32, String> {
     rows.filter(|(number, _)| *number != 0).collect()
 }
 
-/// The sentences of the specification: lines as `-- 8. 'The closeness is above 20'`.
-fn of_the_specification() -> BTreeMap<u32, String> {
-    let specification = file("crates/kistrovu/specs/Grounds.antt");
-    let rows = specification.lines().filter_map(|line| {
-        let (number, quoted) = line.strip_prefix("-- ")?.split_once(". '")?;
-        let sentence = quoted.strip_suffix('\'')?;
+/// The first sentences of the rules, in lines as `- **G8** The closeness is larger than 20.`
+fn of_the_rules() -> BTreeMap<u32, String> {
+    let rules = file("docs/METHOD.md");
+    let rows = rules.lines().filter_map(|line| {
+        let (number, words) = line.strip_prefix("- **G")?.split_once("** ")?;
+        let sentence = words.split_once('.')?.0;
         Some((number.parse().ok()?, format!("{sentence}.")))
     });
     rows.collect()
@@ -46,8 +46,8 @@ fn names_and_numbers_are_the_headers() {
 }
 
 #[test]
-fn sentences_are_those_that_the_specification_quotes() {
-    assert_eq!(listed(|ground| ground.sentence()), of_the_specification());
+fn sentences_are_those_of_the_rules() {
+    assert_eq!(listed(|ground| ground.sentence()), of_the_rules());
 }
 
 #[test]

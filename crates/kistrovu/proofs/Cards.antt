@@ -115,7 +115,7 @@ pub total-is : (e : Closeness) (ps : List Pixel) → cardEntries e ps .total ≡
 unfolding cardEntries
 total-is e ps = refl
 
--- demand 3 of an image that no ground before the entries turns down
+-- D3 of an image that no ground before the entries turns down
 pub card-sound : (e : Closeness) (bytes : List ℕ) (places : ℕ) → ((j : ℕ) → getD bytes j 0 < 256) → Asked e bytes places → SoundCard e (pixelsOf bytes)
 card-sound e bytes places byte a =
     always-sound e (pixelsOf bytes) (omega (arith, pixels-length bytes places (a .threes), a .few)) (λ i l. pixels-bytes bytes byte i)

@@ -1,5 +1,4 @@
--- What each call hands back and leaves behind: 'a turned-down call returns its number, zero in every other figure, and every lent buffer as lent';
--- 'a served call's number is 0', and 'returned places past the last bin or entry are zero'. Assumes nothing.
+-- What each call (A1) hands back and leaves behind, served (A4) or turned down (A3). Assumes nothing.
 use Prim.Native.Nat.{ℕ}
 use mathlib.Core.Bool.{Bool, false, cond}
 use mathlib.Core.List.{List, [], _∷_, map}
@@ -26,18 +25,18 @@ use Rattle.kistrovu.specs.declared.ModesAnswer.{ModesAnswer}
 use Rattle.kistrovu.specs.declared.Card.{Card}
 use Rattle.kistrovu.specs.declared.Printed.{Printed}
 
--- the value where the call is served (its number is 0), else the other
+-- D1 and A2: the value where the call is served (its number is 0), else the other
 abbrev pub served : {A : Type 0} → ℕ → A → A → A
 served n a b = cond (eqb n 0) a b
 
--- not document 01's: the version in the file VERSION, major · 10,000 + minor · 100 + patch. tools/version writes it here
+-- A1: the version in the file VERSION, major · 10,000 + minor · 100 + patch. tools/version writes it here
 abbrev pub libraryVersion : ℕ
 libraryVersion = 10000
 
 unfoldable pub measuresAnswer : ℕ → ℕ → ℕ → MeasuresAnswer
 measuresAnswer r g b = record { number = 0; measures = measuresOf (record { red = r; green = g; blue = b }) }
 
--- 'the fit hands back each bin's block sum and block length'
+-- P4: each bin's block sum and block length
 unfoldable pub fitAnswer : Bool → List ℕ → FitAnswer
 fitAnswer rising h = record {
   number = fitNumber h;
@@ -45,18 +44,18 @@ fitAnswer rising h = record {
   lengths = padded 256 0 (served (fitNumber h) (map (λ (b : Block). b .len) (fitted (direction rising) h)) []);
 }
 
--- the zeros of a verdict that is not given
+-- A3: the zeros of a verdict that is not given
 abbrev pub noVerdict : Verdict
 noVerdict = record { cost = pos 0; rejected = false }
 
--- 'the verdict hands back the cost and whether the stretch is rejected'
+-- T6: the cost, and whether the histogram is rejected
 unfoldable pub verdictAnswer : Closeness → Bool → List ℕ → VerdictAnswer
 verdictAnswer e rising h = record {
   number = verdictNumber e h;
   verdict = served (verdictNumber e h) (verdictOf e (direction rising) h) noVerdict;
 }
 
--- 'hands back how many separators there are'
+-- A4: how many separators there are
 unfoldable pub modesAnswer : List ℕ → ℕ → ModesAnswer
 modesAnswer separators number = record { number = number; separators = served number (length separators) 0 }
 
@@ -66,7 +65,7 @@ lineAnswer e h places = modesAnswer (lineSeparators e h) (modesNumber e h places
 unfoldable pub ringAnswer : Closeness → List ℕ → ℕ → ModesAnswer
 ringAnswer e h places = modesAnswer (ringSeparators e h) (modesNumber e h places)
 
--- the separator list as a line call leaves it: 'overwrites only the first places of the separator list'
+-- A4: the separator list as a line call leaves it
 unfoldable pub lineList : Closeness → List ℕ → List ℕ → List ℕ
 lineList e h list = served (modesNumber e h (length list)) (over (lineSeparators e h) list) list
 
@@ -81,11 +80,11 @@ cardAnswer e bytes places = record {
   entries = padded mostEntries noEntry (servedEntries e bytes places);
 }
 
--- the label buffer as a card call leaves it: 'overwrites only the labels'
+-- A4: the label buffer as a card call leaves it
 unfoldable pub labelList : Closeness → List ℕ → List ℕ → List ℕ
 labelList e bytes list = served (cardNumber e bytes (length list)) (labels e (pixelsOf bytes)) list
 
--- what the program prints for the text of a swatch: 'a turned-down swatch prints one field, the number'
+-- X5 and X7: what the program prints for the text of a swatch
 unfoldable pub printed : List ℕ → List ℕ
 printed text =
     let ps = pixelsOf (bytesOf text) in

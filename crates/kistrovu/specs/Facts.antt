@@ -1,4 +1,4 @@
--- What holds beside the equations: of a served call (demands 2 and 3), of a ring call's list, of a card made twice, and of the program's text. Assumes nothing.
+-- What holds beside the equations: of a served call (D2 and D3), of a ring call's list, of a card made twice, and of the program's text. Assumes nothing.
 use Prim.Native.Nat.{ℕ, suc, _≤_, _<_}
 use mathlib.Core.Path.{_≡_}
 use mathlib.Core.List.{List}
@@ -11,14 +11,14 @@ use Rattle.swatch.specs.Output.{printedMost}
 use Rattle.kistrovu.specs.Grounds.{modesNumber, cardNumber}
 use Rattle.kistrovu.specs.Answers.{cardAnswer, labelList, printed, printedAnswer}
 
--- what a served call ensures: of its number n
+-- D2 and D3: what stands behind a served call, of number n
 abbrev pub IfServed : ℕ → Type 0 → Type 0
 IfServed n P = n ≡ 0 → P
 
 abbrev pub IfTurnedDown : ℕ → Type 0 → Type 0
 IfTurnedDown n P = 0 < n → P
 
--- the separator list of a ring call, lent as `before` and left as `after`. 'The order of the ring's listing is the one free part': `order` names it
+-- R5: the separator list of a ring call, lent as `before` and left as `after`. Its order is the one free part, and `order` names it
 pub record RingList (e : Closeness) (h before after : List ℕ) : Type 0 where
   pub listed : IfServed (modesNumber e h (length before)) ((order : List ℕ) × ListsOnce e h order × (after ≡ over order before))
   pub asLent : IfTurnedDown (modesNumber e h (length before)) (after ≡ before)
@@ -29,7 +29,7 @@ CardAgain = (e : Closeness) (bytes before before′ : List ℕ) → length befor
     → (cardAnswer e bytes (length before) ≡ cardAnswer e bytes (length before′))
     × IfServed (cardNumber e bytes (length before)) (labelList e bytes before ≡ labelList e bytes before′)
 
--- a text longer than any swatch gets the number its first bytes get, up to the one that makes it too long. Proved in proofs/Texts
+-- X8: a text longer than any swatch gets the number its first bytes get, up to the one that makes it too long. Proved in proofs/Texts
 abbrev pub LongText : Type 0
 LongText = (text : List ℕ) → longestSwatch < length text → printedAnswer (take (suc longestSwatch) text) ≡ printedAnswer text
 

@@ -1,4 +1,4 @@
--- Document 01, 'Grounds for turning a call down'. A ground is document 01's own term for a reason of refusal; its number is the answer. Assumes nothing.
+-- The grounds for turning a call down, rules G1 to G11, and which of them concern a call (A2). The number of a ground is the answer. Assumes nothing.
 use Prim.Native.Nat.{ℕ, _/_, _%_}
 use mathlib.Core.Bool.{Bool, cond, not, _||_}
 use mathlib.Core.List.{List, [], _∷_}
@@ -15,56 +15,56 @@ pub record Ground : Type 0 where
   pub number : ℕ
   pub holds : Bool
 
--- 'The first that holds is its number; when none holds, the call is served', and its number is 0
+-- A2: the number of the first that holds; 0 when none does
 unfoldable pub firstGround : List Ground → ℕ
 firstGround [] = 0
 firstGround (g ∷ gs) = cond (g .holds) (g .number) (firstGround gs)
 
--- 1. 'The header line of a swatch is not two fields'
+-- G1: the header is not there
 abbrev pub noHeader : List ℕ → Ground
 noHeader text = record { number = 1; holds = missing (headerOf text) }
 
--- 2. 'Its width × height is 0 or above 16,384'
+-- G2: no pixels, or too many
 abbrev pub wrongSize : List ℕ → Ground
 wrongSize text = record { number = 2; holds = badSize (sizeOf text) }
 
--- 3. 'A pixel line is not three fields of 0 to 255, or lines are missing or left over'
+-- G3: the pixel lines cannot be read, or are not as many as they should be
 abbrev pub badLines : List ℕ → Ground
 badLines text = record { number = 3; holds = missing (pixelBytes text) }
 
--- 4. 'The pixel bytes are none or not a multiple of 3'
+-- G4: no whole pixels
 abbrev pub badBytes : List ℕ → Ground
 badBytes bytes = record { number = 4; holds = eqb (length bytes) 0 || ltb 0 (length bytes % 3) }
 
--- 5. 'There are more than 65,536 pixels'
+-- G5: too many pixels
 abbrev pub manyPixels : List ℕ → Ground
 manyPixels bytes = record { number = 5; holds = ltb mostPixels (length bytes / 3) }
 
--- 6. 'A histogram has fewer than 2 or more than 256 bins'
+-- G6: too few bins, or too many
 abbrev pub badLength : List ℕ → Ground
 badLength h = record { number = 6; holds = ltb (length h) 2 || ltb 256 (length h) }
 
--- 7. 'Its counts sum to more than 65,536'
+-- G7: too many counts
 abbrev pub largeSum : List ℕ → Ground
 largeSum h = record { number = 7; holds = ltb 65536 (total h) }
 
--- 8. 'The closeness is above 20'
+-- G8: too large a closeness
 abbrev pub badCloseness : Closeness → Ground
 badCloseness e = record { number = 8; holds = ltb mostCloseness e }
 
--- 9. 'The label buffer's length is not the pixel count'
+-- G9: the labels do not match the pixels
 abbrev pub badLabels : List ℕ → ℕ → Ground
 badLabels bytes places = record { number = 9; holds = not (eqb places (length bytes / 3)) }
 
--- 10. 'The separator list has fewer places than the histogram has bins'
+-- G10: too little room for separators
 abbrev pub fewPlaces : List ℕ → ℕ → Ground
 fewPlaces h places = record { number = 10; holds = ltb places (length h) }
 
--- 11. 'The card as defined has more than 255 entries'
+-- G11: too many entries
 abbrev pub manyEntries : Closeness → List ℕ → Ground
 manyEntries e bytes = record { number = 11; holds = ltb mostEntries (length (entries e (pixelsOf bytes))) }
 
--- the number of each call: the grounds that concern it, in the document's sequence. The measures of a pixel have none
+-- A2: the number of each call, from the grounds that concern it in their order. The measures of a pixel have none
 unfoldable pub fitNumber : List ℕ → ℕ
 fitNumber h = firstGround (badLength h ∷ largeSum h ∷ [])
 
@@ -82,7 +82,7 @@ askedNumber e bytes places = firstGround (badBytes bytes ∷ manyPixels bytes �
 unfoldable pub cardNumber : Closeness → List ℕ → ℕ → ℕ
 cardNumber e bytes places = firstGround (badBytes bytes ∷ manyPixels bytes ∷ badCloseness e ∷ badLabels bytes places ∷ manyEntries e bytes ∷ [])
 
--- 'It works at closeness 0'
+-- X6: the closeness of the text call
 unfoldable pub programCloseness : Closeness
 programCloseness = 0
 

@@ -1,4 +1,4 @@
-// The public calls, and nothing else: what each promises, for every input, served or turned down.
+// The public calls, and nothing else: what each promises, for every input, served or turned down (demands D1 to D3 of docs/METHOD.md).
 // No call asks anything of its caller. `now (s .entry)` is the list that was lent, `now (s .exit)` the list that is left.
 use palette::Entry;
 use palette::MOST_ENTRIES;
@@ -65,7 +65,7 @@ pub struct ModesAnswer {
     pub separators: u32,
 }
 
-// A card is document 01's own term for the palette of a cloth. The first len places of entries hold it; the rest are zero.
+// A card, the palette of a cloth: the first len places of entries hold it; the rest are zero.
 #[repr(C)]
 pub struct Card {
     pub number: u32,

@@ -6,7 +6,7 @@ use lib.Dec.{leb}
 use Rattle.logarithm.specs.declared.Logarithm.{Logarithm}
 use Rattle.logarithm.specs.Log.{floorLog}
 
--- 'scale x by a power of two to y in [2^31, 2^32)'
+-- L2: the number scaled to 32 bits, and the floor of its logarithm
 unfoldable pub start : ℕ → Logarithm
 start x = let f : ℕ = floorLog 31 x in record { mantissa = x * 2 ^ (31 - f); bits = f }
 
@@ -16,7 +16,7 @@ pub record Ready (s : Logarithm) : Type 0 where
   pub high : s .mantissa < 2 ^ 32
   pub room : s .bits < 2 ^ 63
 
--- 'each round takes the worker's state and hands the next state back'
+-- L3: from a state to the next
 unfoldable pub round : Logarithm → Logarithm
 round s =
     cond (leb (2 ^ 63) (s .mantissa * s .mantissa))

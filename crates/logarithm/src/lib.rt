@@ -1,4 +1,4 @@
-// Document 01, 'The logarithm'.
+// The logarithm, by squaring: a state goes from round to round, and each finds one bit more (rules L1 to L4).
 ghost use mathlib.Core.Path.{_≡_};
 ghost use Prim.Native.Nat.{_≤_, _<_, _*_, _^_};
 ghost use Rattle.logarithm.specs.Log.{lg, unitsPerBit};

@@ -1,4 +1,4 @@
--- Document 01, 'The card'. A card is document 01's own term for a swatch's palette. Assumes nothing.
+-- The card of a cloth, its palette: rules C1 to C8. Assumes nothing.
 --   Branch              a kind, modes chosen level by level, and the pixels whose bins lie in them
 --   members             those of its pixels that the image has; histogramIn, modesFound: their histogram, how many modes it has
 --   child, divide       one mode further; all modes at the levels left
@@ -22,7 +22,7 @@ pub record Branch : Type 0 where
   pub intensity : ℕ
   pub has : Pixel → Bool
 
--- 'kind (0 grey, 1 colour)', no mode chosen yet; 'grey: hue and saturation 0'
+-- C5: kind 0 is grey, 1 colour. No mode is chosen yet; hue and saturation of a grey stay 0
 abbrev pub allGreys : Branch
 allGreys = record { kind = 0; hue = 0; saturation = 0; intensity = 0; has = isGrey }
 
@@ -32,15 +32,15 @@ allColours = record { kind = 1; hue = 0; saturation = 0; intensity = 0; has = λ
 unfoldable pub members : List Pixel → Branch → List Pixel
 members ps b = filter (b .has) ps
 
--- the histogram of a level 'with that parent's pixels only'
+-- C2: the histogram of a level, of the pixels of the branch alone
 unfoldable pub histogramIn : List Pixel → Level → Branch → List ℕ
 histogramIn ps l b = histogram l (members ps b)
 
--- a mean, 'halves up'
+-- C6: a mean, halves up
 unfoldable pub meanOf : List ℕ → ℕ
 meanOf xs = (2 * total xs + length xs) / (2 * length xs)
 
--- 'kind, three mode numbers, mean R, G, B (halves up) and count'
+-- C5: the entry of a branch
 unfoldable pub entryOf : List Pixel → Branch → Entry
 entryOf ps b =
     let own = members ps b in
@@ -59,7 +59,7 @@ module _ (e : Closeness) (ps : List Pixel) where
   unfoldable pub modesFound : Level → Branch → ℕ
   modesFound l b = length (modesAt e l (histogramIn ps l b))
 
-  -- the pixel is one of b, and its bin lies in mode m of that histogram
+  -- C7: the pixel is one of b, and its bin lies in mode m of that histogram
   unfoldable pub inChild : Level → Branch → ℕ → Pixel → Bool
   inChild l b m p = b .has p && liesIn e l (histogramIn ps l b) m (binOf l p)
 
@@ -68,31 +68,31 @@ module _ (e : Closeness) (ps : List Pixel) where
   child saturation b m = record { kind = b .kind; hue = b .hue; saturation = m; intensity = b .intensity; has = inChild saturation b m }
   child intensity b m = record { kind = b .kind; hue = b .hue; saturation = b .saturation; intensity = m; has = inChild intensity b m }
 
-  -- all modes at the levels left, in their order
+  -- C1: all modes at the levels left, in their order
   unfoldable pub divide : List Level → Branch → List Branch
   divide [] b = b ∷ []
   divide (l ∷ ls) b = flatMap (λ m. divide ls (child l b m)) (numbers 0 (modesFound l b))
 
-  -- 'No greys, or no coloured pixels, gives no entries of that kind'
+  -- C3: a kind without pixels has none
   unfoldable pub divideSome : List Level → Branch → List Branch
   divideSome ls b = cond (eqb (length (members ps b)) 0) [] (divide ls b)
 
-  -- 'greys by mode, then colours by hue, saturation, intensity mode'
+  -- C4: the greys, then the colours
   unfoldable pub branches : List Branch
   branches = divideSome greyLevels allGreys ++ divideSome colourLevels allColours
 
-  -- the card as defined, without a limit
+  -- C4: the card, without a limit
   unfoldable pub entries : List Entry
   entries = map (entryOf ps) branches
 
-  -- 'Each pixel's label is its entry's number'
+  -- C8: a pixel's label is the number of its entry
   unfoldable pub label : Pixel → ℕ
   label p = firstIndex (λ (b : Branch). b .has p) branches
 
   unfoldable pub labels : List ℕ
   labels = map label ps
 
--- the most entries that a card may hold
+-- G11: the most entries that a card may hold
 unfoldable pub mostEntries : ℕ
 mostEntries = 255
 

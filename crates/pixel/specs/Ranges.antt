@@ -7,13 +7,13 @@ use Rattle.pixel.specs.declared.Pixel.{Pixel}
 use Rattle.pixel.specs.declared.Measures.{Measures}
 use Rattle.pixel.specs.Colour.{Point, chromaSquared, saturationBin, isGrey, huePoint, quarter, turnedBack, turnedOf, measuresOf}
 
--- 'R, G, B are bytes'
+-- a pixel of bytes
 pub record Bytes (p : Pixel) : Type 0 where
   pub red : p .red < 256
   pub green : p .green < 256
   pub blue : p .blue < 256
 
--- '0 to 51', '0 to 41', '0 to 59'
+-- M1, M3 and M8: the bins there are
 pub record InRange (m : Measures) : Type 0 where
   pub intensity : m .intensity ≤ 51
   pub saturation : m .saturation ≤ 41
@@ -22,12 +22,12 @@ pub record InRange (m : Measures) : Type 0 where
 abbrev pub AlwaysInRange : Type 0
 AlwaysInRange = (p : Pixel) → Bytes p → InRange (measuresOf p)
 
--- Q is the paper's: the difference of natural numbers cuts nothing off
+-- M2: the difference of natural numbers cuts nothing off
 abbrev pub ChromaWhole : Type 0
 ChromaWhole = (p : Pixel)
     → chromaSquared p + (p .red * p .green + p .green * p .blue + p .blue * p .red) ≡ p .red * p .red + p .green * p .green + p .blue * p .blue
 
--- 'the largest j with 75j² ≤ 2Q', of all j
+-- M3: the largest of all j, not only of those up to 41
 pub record SaturationLargest (p : Pixel) : Type 0 where
   pub passes : 75 * (saturationBin p * saturationBin p) ≤ 2 * chromaSquared p
   pub largest : (j : ℕ) → 75 * (j * j) ≤ 2 * chromaSquared p → j ≤ saturationBin p
@@ -35,7 +35,7 @@ pub record SaturationLargest (p : Pixel) : Type 0 where
 abbrev pub AlwaysLargest : Type 0
 AlwaysLargest = (p : Pixel) → Bytes p → SaturationLargest p
 
--- 'to (a,b) with a>0, b≥0': the two numbers that the hue bin is made of are the turned point's own
+-- M7: the two numbers that the hue bin is made of are the turned point's own, and a is positive
 pub record TurnedToFirst (c : Point) : Type 0 where
   pub aPositive : 0 < turnedOf c .a
   pub point : turnedBack (quarter c) c ≡ record { x = pos (turnedOf c .a); y = pos (turnedOf c .b) }

@@ -1,4 +1,4 @@
--- Near a square root. Assumes nothing.
+-- Near a square root, for the saturation bin. No public promise cites it. Assumes nothing.
 --   RootWithin   how near a number is
 --   lineOf       straight lines that run near it, in 1024ths: for 0 to 39, to 199, to 699, and to 1734
 use Prim.Native.Nat.{ℕ, zero, suc, _+_, _*_, _≤_, _<_}

@@ -1,4 +1,4 @@
--- What a fit is: the best monotone sequence of fractions for the counts, made of blocks of bins. Assumes nothing.
+-- What a fit is: the best monotone sequence of fractions for the counts, made of blocks of bins (rules P1, P3 and P5). Assumes nothing.
 use mathlib.Core.Path.{_≡_}
 use mathlib.Core.List.{List, [], _∷_, _++_, map, reverse}
 use Prim.Native.Nat.{ℕ, _*_, _<_}
@@ -11,15 +11,15 @@ use Rattle.pooling.specs.Fraction.{Fraction, _≈_, Proper, Ordered, Com
 abbrev pub mean : Block → Fraction
 mean b = record { num = pos (b .sum); den = b .len }
 
--- 'gives each bin its block's mean'
+-- P5: each bin's mean
 abbrev pub means : List Block → List Fraction
 means bs = map mean (spread bs)
 
 abbrev pub at : List Fraction → ℕ → Fraction
 at ys i = getD ys i (record { num = pos 0; den = 1 })
 
--- f is monotone and keeps the total of the counts h; 'every other' monotone 'sequence of fractions', one whose value differs at some bin i,
--- 'has a strictly larger sum of squared differences', compared 'as whole numbers, multiplied up to one denominator' D: any common denominator will do
+-- P5: f is monotone and keeps the total of the counts h, and every monotone sequence y whose value differs from f's at some bin i is strictly farther from h.
+-- P6: both are compared over a common denominator D, and any will do
 pub record Best (w : Direction) (h : List ℕ) (f : List Fraction) : Type 0 where
   pub sameLength : length f ≡ length h
   pub positive : Proper f
@@ -29,16 +29,16 @@ pub record Best (w : Direction) (h : List ℕ) (f : List Fraction) : Type 0 wher
       → (i : ℕ) → i < length h → ¬ (at f i ≈ at y i)
       → (D : ℕ) → 0 < D → CommonDenominator D f → CommonDenominator D y → error D h f < error D h y
 
--- one denominator always exists; proved in proofs/Always
+-- P6: a common denominator always exists; proved in proofs/Always
 abbrev pub DenominatorExists : Type 0
 DenominatorExists = (ys : List Fraction) → Proper ys → (D : ℕ) × (0 < D) × CommonDenominator D ys
 
--- 'a stretch of bins is cut into blocks': the bins cut into parts that are not empty, each with its sum and length
+-- P1: the bins cut into parts that are not empty, each with its sum and length
 pub data CutInto : List ℕ → List Block → Type 0 where
   empty : CutInto [] []
   first : (x : List ℕ) {h : List ℕ} {bs : List Block} → 0 < length x → CutInto h bs → CutInto (x ++ h) (record { sum = total x; len = length x } ∷ bs)
 
--- what the blocks of a fit are
+-- P5: what the blocks of a fit are
 pub record Pooled (w : Direction) (h : List ℕ) : Type 0 where
   pub cut : CutInto h (blocks w h)
   pub strict : Strict w (blocks w h)
@@ -52,7 +52,7 @@ AlwaysPooled = (w : Direction) (h : List ℕ) → Pooled w h
 abbrev pub BlocksUnique : Type 0
 BlocksUnique = (w : Direction) (h : List ℕ) (bs : List Block) → CutInto h bs → Strict w bs → Best w h (means bs) → bs ≡ blocks w h
 
--- 'a decreasing fit is the mirror image': its blocks, and each bin's block
+-- P3: its blocks, and each bin's block, are those of the reversed stretch, in reverse
 pub record Mirrored (h : List ℕ) : Type 0 where
   pub blocksMirrored : blocks decreasing h ≡ reverse (blocks increasing (reverse h))
   pub fitMirrored : fitted decreasing h ≡ reverse (fitted increasing (reverse h))

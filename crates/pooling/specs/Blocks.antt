@@ -1,4 +1,4 @@
--- Document 01, 'Pooling': the blocks of an increasing or decreasing fit. Assumes nothing.
+-- The blocks of an increasing or decreasing fit: rules P1 to P4. Assumes nothing.
 --   blocks, fitted     the blocks of a stretch; each bin's block
 --   places             each bin's block with the number of the block's first bin
 --   stepsTo, StepsTo   a strict step in the direction of the fit, as a test and as a statement; Strict: at every step
@@ -7,7 +7,7 @@ use mathlib.Core.List.{List, [], _∷_, _++_, reverse}
 use Prim.Native.Nat.{ℕ, _+_, _*_, _<_}
 use lib.Dec.{ltb}
 use lib.ListN.{replicate}
--- the types that the code shares: a block, 'a mean is kept as sum and length'; and a bin's place, its block with the number of the block's first bin
+-- the types that the code shares. P1: a block has a sum and a length, which stand for its mean. A place is a bin's block with the number of the block's first bin
 pub use Rattle.pooling.specs.declared.Block.{Block}
 pub use Rattle.pooling.specs.declared.Place.{Place}
 
@@ -15,19 +15,19 @@ pub data Direction : Type 0 where
   increasing : Direction
   decreasing : Direction
 
--- the direction that a call is told
+-- A1: the direction that a call is told
 abbrev pub direction : (rising : Bool) → Direction
 direction true = increasing
 direction false = decreasing
 
--- the mean of a is strictly below the mean of b, as a test and as a statement
+-- P1: the mean of a is strictly below the mean of b, as a test and as a statement
 abbrev pub below : Block → Block → Bool
 below a b = ltb (a .sum * b .len) (b .sum * a .len)
 
 abbrev pub Below : Block → Block → Type 0
 Below a b = a .sum * b .len < b .sum * a .len
 
--- from a to b the mean changes strictly in the direction of the fit
+-- P3: from a to b the mean changes strictly in the direction of the fit
 abbrev pub stepsTo : Direction → Block → Block → Bool
 stepsTo increasing a b = below a b
 stepsTo decreasing a b = below b a
@@ -39,12 +39,12 @@ StepsTo decreasing a b = Below b a
 abbrev pub merged : Block → Block → Block
 merged a b = record { sum = a .sum + b .sum; len = a .len + b .len }
 
--- a block comes on top of a stack of blocks. While the step from the top to it is not strict, the two become one: 'equal means share a block'
+-- P2: a block comes on top of a stack of blocks. While the step from the top to it is not strict, the two become one
 unfoldable pub push : Direction → Block → List Block → List Block
 push w b [] = b ∷ []
 push w b (a ∷ stack) = cond (stepsTo w a b) (b ∷ a ∷ stack) (push w (merged a b) stack)
 
--- bin by bin, each as a block of length one
+-- P2: bin by bin, each as a block of its own
 unfoldable pub pushAll : Direction → List ℕ → List Block → List Block
 pushAll w [] stack = stack
 pushAll w (h ∷ hs) stack = pushAll w hs (push w (record { sum = h; len = 1 }) stack)
@@ -58,7 +58,7 @@ abbrev pub spread : List Block → List Block
 spread [] = []
 spread (b ∷ bs) = replicate (b .len) b ++ spread bs
 
--- 'the fit hands back each bin's block sum and block length'
+-- P4: what the fit hands back for each bin
 unfoldable pub fitted : Direction → List ℕ → List Block
 fitted w h = spread (blocks w h)
 

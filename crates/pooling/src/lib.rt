@@ -12,7 +12,7 @@ ghost use Rattle.pooling.specs.Stack.{stackOf, sumIn, binsIn};
 // has at most half, so the sum is at most 98,304.
 pub const MOST_BINS: usize = 257;
 
-// A block of neighbouring bins: 'a mean is kept as sum and length'.
+// A block of neighbouring bins, whose sum and length stand for its mean.
 pub struct Block {
     pub sum: u64,
     pub len: u64,

@@ -1,4 +1,4 @@
--- Document 01, 'The card program': black beside red, from the text of the swatch to the printed text. Assumes nothing.
+-- Black beside red, from the text of the swatch to the printed text. Assumes nothing.
 use Prim.Native.Nat.{ℕ}
 use mathlib.Core.Path.{_≡_}
 use mathlib.Core.List.{List, [], _∷_, _++_}
@@ -9,14 +9,14 @@ use Rattle.kistrovu.specs.Answers.{printed}
 abbrev pub spaced : ℕ → List ℕ → List ℕ
 spaced n bytes = replicate n 32 ++ bytes
 
--- 'header 2, 1; pixels 0 0 0 and 255 0 0'
+-- two pixels in a row, 0 0 0 and 255 0 0
 abbrev pub blackBesideRed : List ℕ
 blackBesideRed =
     spaced 5 (50 ∷ []) ++ spaced 5 (49 ∷ 10 ∷ [])
     ++ spaced 3 (48 ∷ []) ++ spaced 3 (48 ∷ []) ++ spaced 3 (48 ∷ 10 ∷ [])
     ++ spaced 1 (50 ∷ 53 ∷ 53 ∷ []) ++ spaced 3 (48 ∷ []) ++ spaced 3 (48 ∷ 10 ∷ [])
 
--- '2 2 0', '0 0 0 0 0 0 0 1', '1 0 0 0 255 0 0 1', in 6 columns each
+-- two entries of one pixel each, in 6 columns a figure
 abbrev pub itsCard : List ℕ
 itsCard =
     spaced 5 (50 ∷ []) ++ spaced 5 (50 ∷ []) ++ spaced 5 (48 ∷ 10 ∷ [])

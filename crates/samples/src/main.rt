@@ -1,5 +1,5 @@
-// Document 01's samples of pixels, fits, verdicts and modes, as the public calls answer them. The starred ones are also proved, from the
-// table in specs/; the others are only run here, and what is printed is compared with the file stdout.
+// Samples of pixels, fits, verdicts and modes, as the public calls answer them. Those in `starred` are also proved, from the table in specs/;
+// the others are only run here, and what is printed is compared with the file stdout.
 use kistrovu::ModesAnswer;
 use kistrovu::kistrovu_fit;
 use kistrovu::kistrovu_line_modes;

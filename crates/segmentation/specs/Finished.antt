@@ -1,4 +1,4 @@
--- Demand 3 on one histogram: no run of modes can still be joined, each mode is a single hump, each bin lies in exactly one mode,
+-- D3 on one histogram: no run of modes can still be joined, each mode is a single hump, each bin lies in exactly one mode,
 -- and behind every verdict stands its fit. Assumes nothing.
 use Prim.Native.Nat.{ℕ, suc, _+_, _-_, _≤_, _<_}
 use mathlib.Core.Path.{_≡_}
@@ -25,7 +25,7 @@ pub record Cut (bins : ℕ) (ss : List Segment) : Type 0 where
   pub ascending : (m : ℕ) → m < length ss → segmentAt ss m .start < segmentAt ss m .end
   pub peakInside : (m : ℕ) → m < length ss → (segmentAt ss m .start ≤ segmentAt ss m .peak) × (segmentAt ss m .peak ≤ segmentAt ss m .end)
 
--- a hump is document 01's own term: 'a single hump when neither its rise (separator to kept peak) nor its fall (kept peak to next separator) is rejected'
+-- S9: the rise of mode m, and its fall
 pub record SingleHump (e : Closeness) (read : Reader) (ss : List Segment) (m : ℕ) : Type 0 where
   pub rise : rejected e increasing (riseOf read ss m 1) ≡ false
   pub fall : rejected e decreasing (fallOf read ss m 1) ≡ false
@@ -33,7 +33,7 @@ pub record SingleHump (e : Closeness) (read : Reader) (ss : List Segment) (m : �
 -- a line of so many bins, with this reader of its stretches and with the modes ss
 pub record Finished (e : Closeness) (read : Reader) (bins : ℕ) (ss : List Segment) : Type 0 where
   pub cut : Cut bins ss
-  -- 'A run of two or more can still be joined when the smaller of its two costs is below 0': of no start i and no length n
+  -- S4: no run of two or more, whatever its start i and length n, is joinable: neither of its costs is below 0
   pub noneJoinable : (i n : ℕ) → 2 ≤ n → i + n ≤ length ss → (pos 0 ≤ℤ riseCost e read ss i n) × (pos 0 ≤ℤ fallCost e read ss i n)
   pub humps : (m : ℕ) → m < length ss → SingleHump e read ss m
   pub oneMode : (b : ℕ) → b < bins → ExactlyOne (length ss) (λ m. inMode ss m b)
@@ -42,16 +42,16 @@ pub record Finished (e : Closeness) (read : Reader) (bins : ℕ) (ss : List Segm
 
 pub record LineFinished (e : Closeness) (h : List ℕ) : Type 0 where
   pub finished : Finished e (lineReader h) (length h) (lineModes e h)
-  -- 'a line's separators rise'
+  -- S10: the listed separators rise
   pub rising : (i : ℕ) → suc i < length (lineSeparators e h) → binAt (lineSeparators e h) i < binAt (lineSeparators e h) (suc i)
 
 -- a ring is judged on its opened line; its own bins are those of the line without the repeated end
 pub record RingFinished (e : Closeness) (h : List ℕ) : Type 0 where
-  -- 'its lowest bin (lowest-numbered of equals)'
+  -- R1: the opening is the lowest bin, and the first of such
   pub inRing : opening h < length h
   pub lowest : (b : ℕ) → b < length h → binAt h (opening h) ≤ binAt h b
   pub lowestNumbered : (b : ℕ) → b < opening h → binAt h (opening h) < binAt h b
-  -- the line is the ring from that bin on, with it repeated after the end
+  -- R2: the line is the ring from that bin on, with it repeated after the end
   pub openedLength : length (opened h) ≡ suc (length h)
   pub openedBins : (i : ℕ) → i ≤ length h → binAt (opened h) i ≡ binAt h (ringBin h i)
   -- each bin of the ring has one place on the line, and sits there
@@ -60,7 +60,7 @@ pub record RingFinished (e : Closeness) (h : List ℕ) : Type 0 where
   pub line : LineFinished e (opened h)
   pub oneMode : (b : ℕ) → b < length h → ExactlyOne (length (ringModes e h)) (λ m. inRingMode e h m b)
 
--- 'whatever the order, each stands in the list exactly once': the list is a permutation of the ring's separators, and none stands in it twice
+-- R5: the list is a permutation of the ring's separators, and none stands in it twice
 pub record ListsOnce (e : Closeness) (h : List ℕ) (list : List ℕ) : Type 0 where
   pub same : (b : ℕ) → countIf (eqb b) list ≡ countIf (eqb b) (ringSeparators e h)
   pub once : (b : ℕ) → countIf (eqb b) list ≤ 1

@@ -12,7 +12,7 @@ pub record Inside (ss : List Segment) : Type 0 where
   pub afterStart : (m : ℕ) → 0 < m → m < length ss → segmentAt ss m .start < segmentAt ss m .peak
   pub beforeEnd : (m : ℕ) → suc m < length ss → segmentAt ss m .peak < segmentAt ss m .end
 
--- 'A mode's bins run from its separator up to the bin before the next; the last mode takes the last bin': how many counts they hold.
+-- S8: how many counts the bins of mode m hold.
 -- A mode ends after its start, so the difference is never negative
 unfoldable pub modeCount : List ℕ → List Segment → ℕ → ℕ
 modeCount h ss m =

@@ -1,4 +1,4 @@
--- Document 01, 'Modes of a line of bins': the joins. Assumes nothing.
+-- Joins, and the modes of a line: rules S3 to S7 and S10. Assumes nothing.
 --   Reader         the bins of a stretch, from bin i to bin j; of a line, its parts
 --   riseOf, fallOf the two stretches of a run of n segments from number i; of a run of one, a mode's rise and fall
 --   Join           a run that may be joined, and the cost that counts
@@ -28,15 +28,15 @@ lineReader h i j = part i j h
 abbrev pub lastIn : List Segment → ℕ → ℕ → Segment
 lastIn ss i n = segmentAt ss (i + n - 1)
 
--- 'first separator to last peak'
+-- S3: from the first separator to the last peak
 unfoldable pub riseOf : Reader → List Segment → ℕ → ℕ → List ℕ
 riseOf read ss i n = read (segmentAt ss i .start) (lastIn ss i n .peak)
 
--- 'first peak to last separator'
+-- S3: from the first peak to the last separator
 unfoldable pub fallOf : Reader → List Segment → ℕ → ℕ → List ℕ
 fallOf read ss i n = read (segmentAt ss i .peak) (lastIn ss i n .end)
 
--- 'drop its inner separators, keep the last peak for a rise, the first for a fall'
+-- S6: the segment that a run becomes
 unfoldable pub joined : List Segment → Join → Segment
 joined ss j = record {
   start = segmentAt ss (j .first) .start;
@@ -44,6 +44,7 @@ joined ss j = record {
   end = lastIn ss (j .first) (j .len) .end;
 }
 
+-- S6: that segment in place of the run
 unfoldable pub join : List Segment → Join → List Segment
 join ss j = take (j .first) ss ++ joined ss j ∷ drop (j .first + j .len) ss
 
@@ -54,30 +55,30 @@ module _ (e : Closeness) (read : Reader) (ss : List Segment) where
   unfoldable pub fallCost : ℕ → ℕ → ℤ
   fallCost i n = cost e decreasing (fallOf read ss i n)
 
-  -- 'The smaller counts, the fall if equal'
+  -- S4: the run of n segments from number i, by the smaller of its costs, and by the fall on a tie
   unfoldable pub joinOf : ℕ → ℕ → Join
   joinOf i n =
       let r = riseCost i n in
       let f = fallCost i n in
       record { first = i; len = n; rise = ltZ r f; cost = cond (ltZ r f) r f }
 
-  -- of all runs of n segments the first with the lowest cost: 'leftmost of equals'. n is at most the number of segments: the difference is never negative
+  -- S5: of all runs of n segments the leftmost with the lowest cost. n is at most the number of segments: the difference is never negative
   unfoldable pub cheapest : ℕ → Join
   cheapest n = joinOf (firstLowest (length ss - n) (λ i. joinOf i n .cost)) n
 
-  -- 'For runs of 2 segments, then 3, and so on': of the first length whose lowest cost is below 0
+  -- S5: of the lengths 2, 3 and so on, the first whose lowest cost is below 0
   unfoldable pub nextJoin : Option Join
   nextJoin = firstThat (λ (j : Join). ltZ (j .cost) (pos 0)) (map cheapest (numbers 2 (length ss - 1)))
 
--- 'After a join start again with runs of 2'. Each join drops a segment or more, so as many steps as segments are enough
+-- S7: the next join, until there is none. Each drops a segment or more, so as many steps as segments are enough
 unfoldable pub joinAll : ℕ → Closeness → Reader → List Segment → List Segment
 joinAll zero e read ss = ss
 joinAll (suc k) e read ss = maybe ss (λ j. joinAll k e read (join ss j)) (nextJoin e read ss)
 
--- the modes of a line of bins
+-- S7: the modes of a line of bins
 unfoldable pub lineModes : Closeness → List ℕ → List Segment
 lineModes e h = joinAll (length (firstSegments h)) e (lineReader h) (firstSegments h)
 
--- the separators of a line: where its modes start, and the last bin
+-- S10: the separators of a line: where its modes start, and the last bin
 unfoldable pub lineSeparators : Closeness → List ℕ → List ℕ
 lineSeparators e h = map (λ (s : Segment). s .start) (lineModes e h) ++ (length h - 1) ∷ []

@@ -27,14 +27,14 @@ pub record RunBelow (least : ℤ) (j r : Join) : Type 0 where
   pub above : ltZ (j .cost) least ≡ false → least ≤ℤ r .cost
   pub small : mag (r .cost) < 2 ^ 62
 
--- 'The smaller counts, the fall if equal'
+-- S4: a run by its two costs
 abbrev pub joinBy : ℕ → ℕ → ℤ → ℤ → Join
 joinBy i n rise fall = record { first = i; len = n; rise = ltZ rise fall; cost = cond (ltZ rise fall) rise fall }
 
--- a run takes the place of what was found where its cost is lower: 'leftmost of equals'
+-- S5: a run takes the place of what was found where its cost is lower, so the leftmost of equals stays
 unfoldable pub betterOf : Found → Join → Found
 betterOf best next = cond (ltZ (next .cost) (best .join .cost)) (record { found = true; join = next }) best
 
--- 'can still be joined when the smaller of its two costs is below 0'
+-- S4: the run, where it is joinable
 abbrev pub whereBelow : Join → Option Join
 whereBelow j = cond (ltZ (j .cost) (pos 0)) (some j) none

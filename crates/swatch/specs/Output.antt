@@ -1,4 +1,4 @@
--- Document 01, 'The card program': printing a card. Assumes nothing.
+-- Printing a card: rule X5. Assumes nothing.
 use Prim.Native.Nat.{ℕ, _+_, _*_, _/_, _%_, _^_, _≤_}
 use mathlib.Core.Path.{_≡_}
 use mathlib.Core.Bool.{cond, _&&_}
@@ -9,19 +9,19 @@ use Rattle.palette.specs.declared.Entry.{Entry}
 use Rattle.palette.specs.Cards.{mostEntries}
 use Rattle.swatch.specs.Input.{lineFeed, space, digitZero}
 
--- a number below a million in 6 columns: the digit of 10^j, or a space in front of the first digit
+-- X2: a number below a million in 6 columns: the digit of 10^j, or a space in front of the first digit
 unfoldable pub printedField : ℕ → List ℕ
 printedField v = map (λ j. cond (ltb 0 j && ltb v (10 ^ j)) space (digitZero + v / 10 ^ j % 10)) (5 ∷ 4 ∷ 3 ∷ 2 ∷ 1 ∷ 0 ∷ [])
 
--- 'lines of 6-column fields, each ended by a line feed'
+-- X5: a line of fields
 unfoldable pub printedLine : List ℕ → List ℕ
 printedLine vs = flatMap printedField vs ++ lineFeed ∷ []
 
--- 'per entry kind, hue, saturation, intensity mode, R, G, B, count'
+-- X5: the line of an entry
 unfoldable pub printedEntry : Entry → List ℕ
 printedEntry t = printedLine (t .kind ∷ t .hue ∷ t .saturation ∷ t .intensity ∷ t .red ∷ t .green ∷ t .blue ∷ t .count ∷ [])
 
--- 'a line of entries, pixels, closeness; then' the entries
+-- X5: the line of entries, pixels and closeness, then the entries
 unfoldable pub printedCard : ℕ → ℕ → List Entry → List ℕ
 printedCard pixels closeness es = printedLine (length es ∷ pixels ∷ closeness ∷ []) ++ flatMap printedEntry es
 

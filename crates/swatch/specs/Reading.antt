@@ -1,4 +1,4 @@
--- What the reading of a swatch hands back: document 01's grounds 1, 2 and 3, in their sequence. Assumes nothing.
+-- What the reading of a swatch hands back: grounds 1, 2 and 3, in their order. Assumes nothing.
 --   given                       a value that may be missing, as the code hands it back
 --   colourField                 a field of 0 to 255
 --   swatchNumber, readingOf     the number of a text; its number and how many pixels it has
@@ -18,23 +18,22 @@ use Rattle.swatch.specs.declared.Reading.{Reading}
 abbrev pub given : {A : Type 0} → Bool → A → Option A
 given there a = cond there (some a) none
 
--- the value of one of a pixel line's 'fields of 0 to 255'
+-- X4: the value of a pixel line's field
 unfoldable pub colourField : List ℕ → Option ℕ
 colourField columns = maybe none (λ v. cond (leb v 255) (some v) none) (field columns)
 
 unfoldable pub mostSwatchPixels : ℕ
 mostSwatchPixels = 16384
 
--- 2. 'Its width × height is 0 or above 16,384'
+-- G2: no pixels, or too many
 abbrev pub badSize : ℕ → Bool
 badSize pixels = eqb pixels 0 || ltb mostSwatchPixels pixels
 
--- the first ground that holds: 1. 'The header line of a swatch is not two fields'; 2.; 3. 'A pixel line is not three fields of 0 to 255, or lines are
--- missing or left over'. 0 when none holds
+-- A2: the first of G1, G2 and G3 that holds; 0 when none does
 unfoldable pub swatchNumber : List ℕ → ℕ
 swatchNumber text = cond (missing (headerOf text)) 1 (cond (badSize (sizeOf text)) 2 (cond (missing (pixelBytes text)) 3 0))
 
--- 'a turned-down call returns its number, zero in every other figure'
+-- A3: the number alone, where it is not 0
 unfoldable pub readingOf : List ℕ → Reading
 readingOf text = record { number = swatchNumber text; pixels = cond (eqb (swatchNumber text) 0) (sizeOf text) 0 }
 
@@ -42,6 +41,6 @@ readingOf text = record { number = swatchNumber text; pixels = cond (eqb (swatch
 unfoldable pub longestSwatch : ℕ
 longestSwatch = 13 * suc mostSwatchPixels
 
--- a text longer than any swatch is turned down, with the number that one byte more than the longest swatch already has
+-- X8: a text longer than any swatch is turned down, with the number that one byte more than the longest swatch already has
 abbrev pub LongText : Type 0
 LongText = (text : List ℕ) → longestSwatch < length text → (readingOf (take (suc longestSwatch) text) ≡ readingOf text) × (0 < swatchNumber text)

@@ -1,4 +1,4 @@
--- Document 01, 'Exactness', and what stands behind every verdict. Assumes nothing.
+-- The exact relative entropy beside the test (rules T7 to T9), and what stands behind every verdict. Assumes nothing.
 use Prim.Native.Nat.{ℕ, suc, _+_, _*_, _-_, _/_, _^_, _≤_, _<_}
 use mathlib.Core.Path.{_≡_}
 use mathlib.Core.Bool.{true, false}
@@ -13,19 +13,19 @@ use Rattle.pooling.specs.Best.{means, Pooled}
 use Rattle.verdict.specs.declared.Mass.{Mass}
 use Rattle.verdict.specs.Test.{Closeness, fittedMass, bar, cost, rejected}
 
--- 'X = (kB)^k·((N−k)B)^(N−k)', with 0^0 = 1; k ≤ N and A ≤ NB, so no difference is ever negative
+-- T7: X of a part with k of the n counts; k ≤ n and A ≤ nB, so no difference is ever negative
 unfoldable pub observed : ℕ → ℕ → Mass → ℕ
 observed n k m = (k * m .den) ^ k * ((n - k) * m .den) ^ (n - k)
 
--- 'Y = A^k·(NB−A)^(N−k)'
+-- T7: Y
 unfoldable pub expected : ℕ → ℕ → Mass → ℕ
 expected n k m = m .num ^ k * (n * m .den - m .num) ^ (n - k)
 
--- '2^e·L(L+1)/2'
+-- T7: what X/Y is held to
 unfoldable pub exactBar : Closeness → ℕ → ℕ
 exactBar e l = 2 ^ e * (l * suc l / 2)
 
--- what the logarithms of a weight ask of a part that holds k of the n counts: kB, (N−k)B, A and NB−A are below 2^32, and 1 or more where their factor is not 0
+-- L1: what the logarithms of a weight ask of a part that holds k of the n counts: kB, (N−k)B, A and NB−A are below 2^32, and 1 or more where their factor is not 0
 pub record InRange (n k : ℕ) (m : Mass) : Type 0 where
   pub partial : k ≤ n
   pub positive : 0 < m .den
@@ -51,28 +51,28 @@ module _ (e : Closeness) (w : Direction) (h : List ℕ) where
   unfoldable pub partBar : ℕ → ℕ → ℕ
   partBar i j = exactBar e (length h) * expected (total h) (total (part i j h)) (fittedMass h (blocks w h) i j)
 
-  -- log2(X/Y) is 'above log2(2^e·L(L+1)/2) less 2N+2 units', 'over whole numbers, both sides raised to 2^24'
+  -- T8: log2(X/Y) is above the bar's logarithm less 2N + 2 units: raised to the units of a bit, a factor of 2 is one unit
   pub record Above (i j : ℕ) : Type 0 where
     pub ends : (i ≤ j) × (j < length h)
     pub above : partBar i j ^ unitsPerBit < partX i j ^ unitsPerBit * 2 ^ (2 * total h + 2)
 
-  -- log2(X/Y) is 'below that bar plus 2N units'
+  -- T9: it is below the bar's logarithm plus 2N units
   pub record BelowBar (i j : ℕ) : Type 0 where
     pub below : partX i j ^ unitsPerBit < partBar i j ^ unitsPerBit * 2 ^ (2 * total h)
 
-  -- 'A rejection means that some part' is above; 'an acceptance means that every part' is below
+  -- T8 and T9: the verdict agrees with the exact figures outside the band
   pub record Exact : Type 0 where
     pub rejection : rejected e w h ≡ true → (i : ℕ) × (j : ℕ) × Above i j
     pub acceptance : rejected e w h ≡ false → (i j : ℕ) → i ≤ j → j < length h → BelowBar i j
 
-  -- A/B is the sum of the fitted means over the part: A·D = B·(that sum times D), for every common denominator D
+  -- T2: A/B is the sum of the fitted means over the part: A·D = B·(that sum times D), for every common denominator D
   pub record MassOfFit (i j : ℕ) : Type 0 where
     pub positive : 0 < fittedMass h (blocks w h) i j .den
     pub mass : (D : ℕ) → 0 < D → CommonDenominator D (means (blocks w h))
         → pos (fittedMass h (blocks w h) i j .num * D)
         ≡ pos (fittedMass h (blocks w h) i j .den) *ℤ sumOf D (part i j (means (blocks w h)))
 
-  -- what stands behind the verdict of the stretch h: its fit, the fitted masses that are the fit's, the exact relative entropy;
+  -- D2 and D3: what stands behind the verdict of the stretch h: its fit, the fitted masses that are the fit's, the exact relative entropy;
   -- and a stretch that already goes the tested way has weight 0 in every part, so its cost is minus the bar
   pub record VerdictSound : Type 0 where
     pub fit : Pooled w h

@@ -1,4 +1,4 @@
--- Document 01, 'The test'. Assumes nothing.
+-- The test of a stretch: rules T1 to T6. Assumes nothing.
 --   L, N, k      length h, total h, total of a part
 --   Mass         a part's fitted mass A/B (num/den)
 --   bar, cost    Θ, and the largest weight W less Θ
@@ -17,10 +17,11 @@ use Rattle.pooling.specs.Blocks.{Direction, blocks, placesFrom}
 use Rattle.verdict.specs.declared.Mass.{Mass}
 use Rattle.verdict.specs.declared.Verdict.{Verdict}
 
--- closeness is document 01's own term: 'e is 0 to 20, standing for 002's ε = 1/2^e'
+-- T4: bits of evidence that a stretch must show before it is rejected, beyond those that its number of parts asks for
 abbrev pub Closeness : Type 0
 Closeness = ℕ
 
+-- G8: the largest that a call takes
 unfoldable pub mostCloseness : Closeness
 mostCloseness = 20
 
@@ -28,33 +29,32 @@ mostCloseness = 20
 unfoldable pub placeOf : List Block → ℕ → Place
 placeOf bs i = getD (placesFrom 0 bs) i (record { start = 0; block = record { sum = 0; len = 1 } })
 
--- 'B is the length of the block if both ends of the part lie in one block': bins i to j of the block at p, with i ≤ j
+-- T1: bins i to j of the block at p, with i ≤ j
 unfoldable pub massWithin : Place → ℕ → ℕ → Mass
 massWithin p i j = record { num = (suc j - i) * p .block .sum; den = p .block .len }
 
--- so many bins of a first block, the counts between, and so many bins of a last block, over 'the product of the two end blocks' lengths'
+-- T2: `tail` bins of a first block, the counts between, and `head` bins of a last block, over the product of the two lengths
 abbrev pub massOfThree : (tail sum len between head lastSum lastLen : ℕ) → Mass
 massOfThree tail sum len between head lastSum lastLen = record {
   num = tail * sum * lastLen + between * (len * lastLen) + head * lastSum * len;
   den = len * lastLen;
 }
 
--- 'else': the tail of the block at p, the bins between, the head of the block at q.
+-- T2: the tail of the block at p, the bins between, the head of the block at q.
 -- Bin i is in the first block, bin j in the second and the first ends at or before the second's start: no difference is ever negative
 unfoldable pub massAcross : List ℕ → Place → Place → ℕ → ℕ → Mass
 massAcross h p q i j =
     let next = p .start + p .block .len in
     massOfThree (next - i) (p .block .sum) (p .block .len) (total (take (q .start - next) (drop next h))) (suc j - q .start) (q .block .sum) (q .block .len)
 
--- the fitted mass of the part from bin i to bin j of the stretch h with these blocks
+-- T1 or T2: the fitted mass of the part from bin i to bin j of the stretch h with these blocks
 unfoldable pub fittedMass : List ℕ → List Block → ℕ → ℕ → Mass
 fittedMass h bs i j =
     let p = placeOf bs i in
     let q = placeOf bs j in
     cond (eqb (p .start) (q .start)) (massWithin p i j) (massAcross h p q i j)
 
--- 'W = k·(lg(kB)−lg(A)) + (N−k)·(lg((N−k)B)−lg(NB−A)); a term whose factor k or N−k is 0 is 0': one difference of two sums.
--- k ≤ N, and A ≤ NB: no other difference is ever negative
+-- T3: the four terms, as one difference of two sums; a term whose factor is 0 is 0. k ≤ N, and A ≤ NB: no other difference is ever negative
 unfoldable pub weight : ℕ → ℕ → Mass → ℤ
 weight n k m =
     subℕ (k * lg (k * m .den) + (n - k) * lg ((n - k) * m .den))
@@ -63,21 +63,22 @@ weight n k m =
 unfoldable pub partWeight : List ℕ → List Block → ℕ → ℕ → ℤ
 partWeight h bs i j = weight (total h) (total (part i j h)) (fittedMass h bs i j)
 
--- 'Bar Θ = lg(L(L+1)/2) + e·2^24'
+-- T4: a stretch of l bins has l(l+1)/2 parts
 unfoldable pub bar : Closeness → ℕ → ℕ
 bar e l = lg (l * suc l / 2) + e * unitsPerBit
 
--- 'the largest W', over every part i ≤ j of the stretch, which has a bin
+-- T5: over every part i ≤ j of the stretch, which has a bin
 unfoldable pub largestWeight : List ℕ → List Block → ℤ
 largestWeight h bs = largest (length h - 1) (λ j. largest j (λ i. partWeight h bs i j))
 
--- 'The cost is the largest W less Θ'
+-- T5: the largest weight less the bar
 unfoldable pub cost : Closeness → Direction → List ℕ → ℤ
 cost e w h = largestWeight h (blocks w h) -ℤ pos (bar e (length h))
 
--- 'rejected when its cost is 0 or more. A stretch of one bin is never rejected'
+-- T6: one bin is never rejected
 unfoldable pub rejected : Closeness → Direction → List ℕ → Bool
 rejected e w h = leb 2 (length h) && leZ (pos 0) (cost e w h)
 
+-- T6: cost and rejection in one
 unfoldable pub verdictOf : Closeness → Direction → List ℕ → Verdict
 verdictOf e w h = record { cost = cost e w h; rejected = rejected e w h }

@@ -15,16 +15,16 @@ ghost use Rattle.pooling.specs.Blocks.{direction};
 ghost use Rattle.verdict.specs.Test.{verdictOf, mostCloseness};
 ghost use Rattle.verdict.specs.Tables.{Small};
 
-// Closeness is document 01's own term: 'closeness e is 0 to 20, standing for ε = 1/2^e'.
+// Closeness: each step asks for one bit more of evidence before a stretch is rejected (rule T4).
 pub const MOST_CLOSENESS: u32 = 20;
 
-// A part's fitted mass: document 01's A/B.
+// A part's fitted mass A/B (rules T1 and T2).
 pub struct Mass {
     pub num: u64,
     pub den: u64,
 }
 
-// 'The cost and whether the stretch is rejected are its verdict.'
+// A stretch's cost, and whether it is rejected.
 #[repr(C)]
 pub struct Verdict {
     pub cost: i64,

@@ -24,7 +24,7 @@ pub enum CardSource {
 use CardSource::{Draw, List};
 
 pub const CARDS: [(&str, CardSource); 20] = [
-    ("samples of the paper", List(samples)),
+    ("samples", List(samples)),
     ("grounds", List(grounds)),
     ("one pixel", List(one_pixel)),
     ("two pixels", List(two_pixels)),

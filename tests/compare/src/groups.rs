@@ -22,7 +22,7 @@ pub enum Source {
 use Source::{Draw, List};
 
 pub const GROUPS: [(&str, Source); 18] = [
-    ("samples of the paper", List(samples)),
+    ("samples", List(samples)),
     ("every small histogram", List(every_small)),
     ("two bins", List(two_bins)),
     ("empty and single spikes", List(single_spikes)),

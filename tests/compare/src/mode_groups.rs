@@ -25,7 +25,7 @@ use ModesSource::{Draw, List};
 
 /// The groups that lines and rings share.
 pub const BOTH: [(&str, ModesSource); 10] = [
-    ("samples of the paper", List(samples)),
+    ("samples", List(samples)),
     ("every small histogram", List(every_small)),
     ("two bins", List(two_bins)),
     ("all zero and all equal", List(all_equal)),

@@ -23,7 +23,7 @@ pub enum TextSource {
 use TextSource::{Draw, List};
 
 pub const TEXTS: [(&str, TextSource); 13] = [
-    ("samples of the paper", List(samples)),
+    ("samples", List(samples)),
     ("every byte in every place", List(every_byte)),
     ("every byte put in between", List(every_insertion)),
     ("every length", List(every_length)),

@@ -1,10 +1,10 @@
-//! The grounds for turning a call down, as the definitions list them, and which of them concern a call.
+//! The grounds for turning a call down, in the words of docs/METHOD.md, and which of them the definitions have for a call.
 
 use super::rattle::Source;
 use super::tokens::tokens;
 use std::collections::BTreeMap;
 
-/// Document 01's list has this many.
+/// docs/METHOD.md lists this many.
 const COUNT: u64 = 11;
 
 /// The grounds' words in order, from number 1 on, and for each call the numbers of those that concern it.
@@ -27,10 +27,10 @@ const NUMBERS: [(&str, Option<&str>); 8] = [
 ];
 
 impl Grounds {
-    /// Reads the lines `-- NUMBER. 'words'`, `name .. = record { number = NUMBER; ..` and `name .. = firstGround (..)`.
+    /// Reads the lines `- **GNUMBER** words.`, `name .. = record { number = NUMBER; ..` and `name .. = firstGround (..)`.
     pub fn read(text: &str) -> Result<Self, String> {
-        let quoted: Vec<(u64, String)> = text.lines().filter_map(quoted).collect();
-        let numbers: Vec<u64> = quoted.iter().map(|(number, _)| *number).collect();
+        let worded: Vec<(u64, String)> = text.lines().filter_map(worded).collect();
+        let numbers: Vec<u64> = worded.iter().map(|(number, _)| *number).collect();
         let defined: Vec<(String, u64)> = text.lines().filter_map(defined).collect();
         let found: Vec<u64> = defined.iter().map(|(_, number)| *number).collect();
         let expected: Vec<u64> = (1..=COUNT).collect();
@@ -43,7 +43,7 @@ impl Grounds {
             Ok((call.to_string(), found?))
         });
         Ok(Grounds {
-            words: quoted.into_iter().map(|(_, words)| words).collect(),
+            words: worded.into_iter().map(|(_, words)| words).collect(),
             calls: calls.collect::<Result<_, String>>()?,
         })
     }
@@ -63,10 +63,10 @@ impl Grounds {
     }
 }
 
-/// In a comment in C the words begin small, and have no sign that is not ASCII.
-fn quoted(line: &str) -> Option<(u64, String)> {
-    let (number, words) = line.strip_prefix("-- ")?.split_once(". '")?;
-    let words = words.strip_suffix('\'')?.replace('×', "x");
+/// The rule's first sentence. In a comment in C it begins small and has no full stop.
+fn worded(line: &str) -> Option<(u64, String)> {
+    let (number, words) = line.strip_prefix("- **G")?.split_once("** ")?;
+    let words = words.split_once('.')?.0;
     let (first, rest) = words.split_at_checked(1)?;
     Some((number.parse().ok()?, first.to_lowercase() + rest))
 }

@@ -31,7 +31,8 @@ pub const FILES: [&str; 6] = [
     "crates/card/src/main.rt",
 ];
 
-/// The definitions of the grounds, and the declarations that are held against all of these.
+/// The words of the grounds, their definitions, and the declarations that are held against all of these.
+pub const METHOD: &str = "docs/METHOD.md";
 pub const GROUNDS: &str = "crates/kistrovu/specs/Grounds.antt";
 pub const HEADER: &str = "include/kistrovu.h";
 pub const RAW: &str = "bindings/rust/src/raw.rs";
@@ -58,7 +59,7 @@ impl Texts {
     pub fn of_repository() -> Self {
         Texts {
             rattle: FILES.map(|name| (name, read(name))).to_vec(),
-            grounds: read(GROUNDS),
+            grounds: read(METHOD) + &read(GROUNDS),
             header: read(HEADER),
             raw: read(RAW),
         }

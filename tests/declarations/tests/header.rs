@@ -161,8 +161,8 @@ fn wrong_grounds_are_refused() {
             "numbers of the grounds",
         ),
         (
-            "closeness is above 20 */",
-            "closeness is above 21 */",
+            "closeness is larger than 20 */",
+            "closeness is larger than 21 */",
             "the words of KISTROVU_CLOSENESS",
         ),
         (

@@ -163,7 +163,7 @@ fn wrong_lists_of_grounds_are_refused() {
     let right = Texts::of_repository().grounds;
     assert!(Grounds::read(&right).is_ok());
     let wrong = [
-        edited(&right, "-- 9. '", "-- 10. '"),
+        edited(&right, "- **G9** ", "- **G10** "),
         edited(&right, "number = 9;", "number = 8;"),
         edited(&right, "textNumber text = ", "wordNumber text = "),
         String::new(),

@@ -1,9 +1,9 @@
-//! A second implementation of document 01: measures of a pixel, pooling, the logarithm, the test, the modes of a line
-//! and of a ring, the card, the card program's texts, and the public calls built of them. It is written to be read beside
-//! the paper, clear before fast, and on purpose by other means than the engine, so that a slip in one is unlikely to be
+//! A second implementation of docs/METHOD.md: a pixel's measures, pooling, the logarithm, the test, modes of lines
+//! and rings, the card, the card program's texts, and the public calls built of them. It is written to be read beside
+//! the rules, clear before fast, and on purpose by other means than the engine, so that a slip in one is unlikely to be
 //! found in the other as well.
 //!
-//! One module for each section of the paper, and one for the ring. To run its own tests: `cargo test -p reference` in
+//! One module for each section of the rules. To run its own tests: `cargo test -p reference` in
 //! `tests/`.
 
 pub mod calls;

@@ -130,7 +130,7 @@ mod tests {
     }
 
     #[test]
-    fn samples_of_the_paper() {
+    fn samples_that_are_given() {
         assert_eq!(separators(&[0, 1, 0, 1, 0], 0), [0, 4]);
         let humps = [0, 20, 0, 20, 0];
         assert_eq!(separators(&humps, 0), [0, 2, 4]);
@@ -190,7 +190,7 @@ mod tests {
         assert_eq!(left, [segment(0, 1, 4), segment(4, 5, 6)]);
     }
 
-    /// Demand 3, by the words of the paper and without the joins that led there.
+    /// D3, by the rules and without the joins that led there.
     #[test]
     fn no_run_of_modes_can_still_be_joined() {
         for counts in small_lines() {

@@ -94,7 +94,7 @@ mod tests {
     }
 
     #[test]
-    fn hues_of_the_paper() {
+    fn hues_that_are_given() {
         assert_eq!(measures(0, 255, 0).hue, 5);
         assert_eq!(measures(0, 0, 255).hue, 25);
         assert_eq!(measures(255, 0, 0).hue, 45);

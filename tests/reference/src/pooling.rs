@@ -99,7 +99,7 @@ mod tests {
     }
 
     #[test]
-    fn samples_of_the_paper() {
+    fn samples_that_are_given() {
         assert_eq!(means(&[3, 1, 2], true), [(6, 3), (6, 3), (6, 3)]);
         assert_eq!(means(&[1, 3, 2], true), [(1, 1), (5, 2), (5, 2)]);
     }

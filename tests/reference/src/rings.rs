@@ -41,7 +41,7 @@ mod tests {
 
     #[test]
     fn separators_are_the_ring_s_own_numbers() {
-        // 0, 20, 0, 20, 0 of the paper, as a ring, and turned on by one and by three bins.
+        // 0, 20, 0, 20, 0, as a ring, and turned on by one and by three bins.
         assert_eq!(separators(&[0, 20, 0, 20], 0), [0, 2]);
         assert_eq!(separators(&[20, 0, 20, 0], 0), [1, 3]);
         assert_eq!(separators(&[30, 9, 0, 40, 9, 1], 0), [2, 5]);
@@ -106,7 +106,7 @@ mod tests {
         }
     }
 
-    /// Demand 3 on the opened line.
+    /// D3 on the opened line.
     #[test]
     fn no_run_of_modes_can_still_be_joined() {
         for counts in small_rings() {

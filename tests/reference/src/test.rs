@@ -84,7 +84,7 @@ pub fn parts(counts: &[u64], rising: bool) -> Vec<Part> {
     parts
 }
 
-/// 01's B, from the blocks of a part's two ends.
+/// B, from the blocks of a part's two ends.
 fn denominator(first: &Block, last: &Block) -> u64 {
     if first == last {
         first.len as u64
@@ -222,7 +222,7 @@ mod tests {
     }
 
     #[test]
-    fn humps_of_the_paper() {
+    fn humps_that_are_given() {
         // 0, 20, 0, 20, 0 keeps its middle separator at closeness 13 and loses it at 14: either way of joining its
         // two segments is rejected at 13, and one of them is not at 14. 0, 1, 0, 1, 0 loses it at once.
         let costs = |counts: [u64; 4], mirror: [u64; 4], closeness| {

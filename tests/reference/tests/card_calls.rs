@@ -95,7 +95,7 @@ fn printed(text: &[u8]) -> (u32, String) {
 }
 
 #[test]
-fn black_beside_red_is_printed_as_in_the_paper() {
+fn black_beside_red_is_printed_as_given() {
     let text = b"     2     1\n   0   0   0\n 255   0   0\n";
     let expected = "     2     2     0\n\
         \x20    0     0     0     0     0     0     0     1\n\

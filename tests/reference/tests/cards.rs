@@ -155,7 +155,7 @@ fn mixed(count: u32) -> Vec<Pixel> {
         .collect()
 }
 
-/// Demand 3: each entry's count is the number of pixels that bear its number, and they add up.
+/// D3: each entry's count is the number of pixels that bear its number, and they add up.
 #[test]
 fn counts_are_those_of_the_labels() {
     for closeness in [0, 1, 5, 20] {

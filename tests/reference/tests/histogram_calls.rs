@@ -80,7 +80,7 @@ fn modes_turned_down(number: u32) -> ModesAnswer {
 }
 
 #[test]
-fn modes_of_the_paper() {
+fn modes_that_are_given() {
     let mut list = [9; 7];
     let two = ModesAnswer {
         number: 0,

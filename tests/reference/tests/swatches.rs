@@ -6,7 +6,7 @@ use reference::swatches::*;
 const BLACK_BESIDE_RED: &[u8] = b"     2     1\n   0   0   0\n 255   0   0\n";
 
 #[test]
-fn the_swatch_of_the_paper() {
+fn the_swatch_that_are_given() {
     assert_eq!(read(BLACK_BESIDE_RED), Ok(vec![[0, 0, 0], [255, 0, 0]]));
     assert_eq!(
         written(2, 1, &[[0, 0, 0], [255, 0, 0]]),

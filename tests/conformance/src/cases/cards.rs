@@ -72,7 +72,7 @@ fn runs(runs: &[(Pixel, usize)]) -> Vec<Pixel> {
 
 fn samples() -> Vec<Case> {
     vec![
-        fitting("document 01's sample, black beside red", &[BLACK, RED], 0),
+        fitting("the first sample, black beside red", &[BLACK, RED], 0),
         fitting(
             "the other way round: labels follow the pixels, entries do not",
             &[RED, BLACK],

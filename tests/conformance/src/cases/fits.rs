@@ -28,7 +28,7 @@ fn both_ways((what, histogram): &Named) -> [Case; 2] {
 
 fn samples() -> Vec<Named> {
     [vec![3, 1, 2], vec![1, 3, 2]]
-        .map(|histogram| ("document 01's sample".to_string(), histogram))
+        .map(|histogram| ("a sample".to_string(), histogram))
         .to_vec()
 }
 

@@ -45,9 +45,9 @@ fn given(asked: Asked, call: fn(Listing) -> Call) -> Case {
 
 pub fn lines() -> Vec<Case> {
     let mut all = Vec::new();
-    all.push(sample("document 01's sample", &[0, 1, 0, 1, 0], 0));
+    all.push(sample("a sample", &[0, 1, 0, 1, 0], 0));
     for closeness in [0, 13, 14] {
-        let what = "document 01's sample";
+        let what = "a sample";
         all.push(sample(what, &[0, 20, 0, 20, 0], closeness));
     }
     all.extend(common(&[0, 20, 0, 20, 0]));
@@ -73,7 +73,7 @@ pub fn lines() -> Vec<Case> {
 pub fn rings() -> Vec<Case> {
     let mut all = Vec::new();
     for closeness in [0, 13, 14] {
-        let what = "document 01's sample of a line, as a ring";
+        let what = "a sample of a line, as a ring";
         all.push(sample(what, &[0, 1, 0, 1], closeness));
         all.push(sample(what, &[0, 20, 0, 20], closeness));
         all.push(sample(what, &[20, 0, 20, 0], closeness));

@@ -25,7 +25,7 @@ pub fn cases() -> Vec<Case> {
         pixels.collect::<Vec<Pixel>>()
     };
     let groups = [
-        ("document 01's samples", samples()),
+        ("samples", samples()),
         ("the eight corners of the cube", corners()),
         (
             "intensity: the last sum of each bin and the first of the next",
@@ -135,7 +135,7 @@ fn squares() -> Vec<Pixel> {
     found
 }
 
-/// The point whose angle is the hue, as document 01 has it.
+/// The point whose angle is the hue, as M5 has it.
 fn point([red, green, blue]: Pixel) -> (i64, i64) {
     let [r, g, b] = [red, green, blue].map(i64::from);
     (1_732_051 * (g - b), 1_000_000 * (g + b - 2 * r))

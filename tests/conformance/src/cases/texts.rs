@@ -18,7 +18,7 @@ const LONGEST: usize = 13 * 16_385;
 
 pub fn cases() -> Result<Vec<Case>, String> {
     let mut all = vec![text(
-        "document 01's sample, black beside red",
+        "the first sample, black beside red",
         BLACK_BESIDE_RED,
     )];
     all.extend(headers());

@@ -36,7 +36,7 @@ fn both_ways(((what, histogram), closeness): &Judged) -> [Case; 2] {
     })
 }
 
-/// The stretches behind document 01's samples of modes.
+/// The stretches behind the samples of modes.
 fn samples() -> Vec<Judged> {
     let mut judged = Vec::new();
     for histogram in [
@@ -46,7 +46,7 @@ fn samples() -> Vec<Judged> {
         vec![20, 0, 20, 0],
     ] {
         for closeness in [0, 13, 14] {
-            let what = "a stretch of document 01's samples".to_string();
+            let what = "a stretch of the samples".to_string();
             judged.push(((what, histogram.clone()), closeness));
         }
     }
@@ -85,7 +85,7 @@ fn grounds_at_once() -> Vec<Judged> {
     .to_vec()
 }
 
-/// Stretches whose cost is another by some units when B is not what document 01 says.
+/// Stretches whose cost is another by some units when B is not that of T1 and T2.
 fn denominators() -> Vec<Judged> {
     let not_product = "B of a part that ends in two blocks is the product of their lengths";
     let equal = "B is the product also where the two lengths are equal";
