@@ -14,6 +14,7 @@ use Rattle.lists.proofs.Cases.{by-cond}
 use Rattle.lists.proofs.Filters.{numbers-length}
 use Rattle.lists.proofs.Places.{map-at}
 use Rattle.lists.proofs.Each.{Each, each-from, each-all, each-at, each-so, each-append}
+use Rattle.lists.proofs.Flattened.{flat-map-few, map-same, each-map}
 use Rattle.pixel.specs.declared.Pixel.{Pixel}
 use Rattle.pixel.specs.Colour.{isGrey, intensityBin, saturationBin, hueBin}
 use Rattle.pixel.specs.Ranges.{Bytes}
@@ -24,7 +25,6 @@ use Rattle.dividing.specs.Nodes.{Stage, levelAt, mostCodes, modesBefore,
 use Rattle.dividing.specs.Dividing.{firstCell, codeOf}
 use Rattle.palette.specs.Sound.{pixelAt}
 use Rattle.palette.proofs.FewModes.{mostModes, some-modes, found-few}
-use Rattle.lists.proofs.Flattened.{flat-map-few, map-same, each-map}
 use Rattle.dividing.proofs.Steps.{waiting, holds, numberIn, children, step, nodesAfter, steps-part, nodes-branches, Placed, each-placed}
 use Rattle.dividing.proofs.Rows.{cellIn}
 use Rattle.dividing.proofs.Codes.{codeAt}

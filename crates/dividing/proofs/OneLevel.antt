@@ -12,13 +12,13 @@ use Rattle.lists.specs.Lists.{numbers, countIf, firstIndex}
 use Rattle.lists.proofs.Filters.{numbers-length}
 use Rattle.lists.proofs.Each.{Each, each-so, each-filter}
 use Rattle.lists.proofs.Firsts.{first-below, first-passes}
+use Rattle.lists.proofs.Flattened.{flat-map-more}
 use Rattle.pixel.specs.declared.Pixel.{Pixel}
 use Rattle.pixel.specs.Ranges.{Bytes}
 use Rattle.verdict.specs.Test.{Closeness}
 use Rattle.palette.specs.Levels.{Level, binOf}
 use Rattle.palette.specs.Cards.{Branch, allGreys, members, histogramIn, modesFound}
 use Rattle.dividing.specs.Nodes.{tally, levelAt, width, waits, nodeRow, modeCount, modesBefore, modeIn, nextNode, nextCodes}
-use Rattle.lists.proofs.Flattened.{flat-map-more}
 use Rattle.palette.proofs.LevelBins.{bin-below, histogram-total}
 use Rattle.dividing.proofs.Steps.{waiting, holds, numberIn, children, step, step-mode, steps-number, Placed, each-placed}
 use Rattle.dividing.proofs.Rows.{cellIn, row-histogram}

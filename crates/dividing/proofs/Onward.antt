@@ -10,6 +10,7 @@ use Rattle.lists.proofs.Cases.{by-order}
 use Rattle.lists.proofs.Places.{map-at}
 use Rattle.lists.proofs.Each.{each-from}
 use Rattle.lists.proofs.Flattened.{map-same}
+use Rattle.lists.proofs.Counting.{member-counted}
 use Rattle.verdict.specs.Test.{Closeness}
 use Rattle.lists.specs.Lists.{total}
 use Rattle.palette.specs.Sound.{mostPixels}
@@ -18,7 +19,6 @@ use Rattle.dividing.specs.Numbering.{HoldsFirst, ModesNumbered}
 use Rattle.dividing.proofs.Tallies.{tally-at, tally-length}
 use Rattle.dividing.proofs.Entering.{cells-length, cells-at}
 use Rattle.dividing.proofs.AllNodes.{next-codes-length}
-use Rattle.lists.proofs.Counting.{member-counted}
 use Rattle.dividing.proofs.Ahead.{tally-total, next-below, codes-below, nodes-few}
 
 -- ---- what a buffer holds of a list

@@ -16,13 +16,13 @@ use Rattle.lists.proofs.Cases.{by-cond}
 use Rattle.lists.proofs.Each.{Each, each-all, each-so, each-both, each-number}
 use Rattle.lists.proofs.Counting.{count-total, count-flat-map, total-same}
 use Rattle.lists.proofs.Firsts.{first-here, first-later, first-below, first-passes}
+use Rattle.lists.proofs.Flattened.{flat-map-append, flat-map-twice, flat-map-map, flat-map-single, flat-map-same, each-counted, first-map, none-before-first}
 use Rattle.pixel.specs.declared.Pixel.{Pixel}
 use Rattle.pixel.specs.Ranges.{Bytes}
 use Rattle.verdict.specs.Test.{Closeness}
 use Rattle.palette.specs.Levels.{Level, hue, saturation, intensity, greyLevels, colourLevels, binOf, liesIn}
 use Rattle.palette.specs.Cards.{Branch, allGreys, allColours, members, histogramIn, modesFound, inChild, child, divide, divideSome, branches}
 use Rattle.dividing.specs.Nodes.{levelAt, modeOf}
-use Rattle.lists.proofs.Flattened.{flat-map-append, flat-map-twice, flat-map-map, flat-map-single, flat-map-same, each-counted, first-map, none-before-first}
 use Rattle.palette.proofs.Partition.{child-has, children-part}
 use Rattle.palette.proofs.Filled.{members-count, child-filled}
 

@@ -1,5 +1,5 @@
 pub mod Served
-mod Fits
+mod FitAnswers
 mod Modes
 pub mod Cards
 pub mod Texts

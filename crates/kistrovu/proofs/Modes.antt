@@ -7,7 +7,7 @@ use borrow.Author.Tests.{eq-eqb, ne-eqb}
 use lib.ListN.{length}
 use Rattle.lists.specs.Lists.{over}
 use Rattle.verdict.specs.Test.{Closeness, mostCloseness}
-use Rattle.verdict.specs.Tables.{Small}
+use Rattle.verdict.specs.Scratch.{Small}
 use Rattle.segmentation.specs.Joining.{lineSeparators}
 use Rattle.segmentation.specs.Ring.{ringSeparators}
 use Rattle.segmentation.specs.Finished.{LineFinished, RingFinished}

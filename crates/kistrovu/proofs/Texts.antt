@@ -20,7 +20,7 @@ use Rattle.swatch.specs.Input.{headerOf, sizeOf, pixelBytes, bytesOf}
 use Rattle.swatch.specs.declared.Reading.{Reading}
 use Rattle.swatch.specs.Reading.{mostSwatchPixels, badSize, swatchNumber, readingOf, longestSwatch}
 use Rattle.swatch.specs.Output.{printedLine, printedCard, printedMost}
-use Rattle.swatch.proofs.Fits.{line-length, printed-fits}
+use Rattle.swatch.proofs.PrintedLengths.{line-length, printed-fits}
 use Rattle.swatch.proofs.Long.{long-text}
 use Rattle.kistrovu.specs.declared.Said.{Said}
 use Rattle.kistrovu.specs.declared.Printed.{Printed}

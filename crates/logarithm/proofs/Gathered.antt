@@ -1,6 +1,6 @@
 -- The worker's bits are the definition's: 'the next lower bit of lg, from 2^23 down' set where it belongs, or every bit doubled as often as rounds follow it.
 -- Assumes nothing.
-use Prim.Native.Nat.{ℕ, zero, suc, _+_, _*_, _-_, _/_, _^_}
+use Prim.Native.Nat.{ℕ, zero, suc, _+_, _*_, _/_, _^_}
 use mathlib.Core.Path.{_≡_, ap, _∙_}
 use mathlib.Core.Bool.{Bool, true, false, cond}
 use lib.Dec.{leb}

@@ -6,7 +6,7 @@ use native.Mathlib.Omega.{arith}
 use lib.Dec.{eqb}
 use lib.ListN.{length, getD}
 use Rattle.lists.specs.Lists.{countIf}
-use Rattle.lists.proofs.Writes.{table-length, table-at}
+use Rattle.lists.proofs.Tabled.{table-length, table-at}
 use Rattle.pixel.specs.declared.Pixel.{Pixel}
 use Rattle.palette.specs.declared.Entry.{Entry}
 use Rattle.dividing.specs.Nodes.{tally}

@@ -8,8 +8,8 @@ use native.Mathlib.Numerals.{add-one}
 use lib.Dec.{eqb}
 use lib.ListN.{length, take, getD, set, replicate}
 use Rattle.lists.specs.Lists.{countIf}
-use Rattle.lists.proofs.Tests.{count-le}
-use Rattle.lists.proofs.Writes.{table-length, table-at, table-zeros, table-add}
+use Rattle.lists.proofs.Counting.{count-le}
+use Rattle.lists.proofs.Tabled.{table-length, table-at, table-zeros, table-add}
 use Rattle.pixel.specs.declared.Pixel.{Pixel}
 use Rattle.pixel.specs.Ranges.{Bytes}
 use Rattle.palette.specs.Sound.{pixelAt}

@@ -11,9 +11,8 @@ use Rattle.pixel.specs.Ranges.{Bytes}
 use Rattle.verdict.specs.Test.{Closeness}
 use Rattle.palette.specs.Levels.{Level, hue, saturation, intensity, binCount, binOf, liesIn}
 use Rattle.palette.specs.Cards.{Branch, members, histogramIn, modesFound, inChild, child, divide}
-use Rattle.lists.proofs.Rotations.{count-none}
+use Rattle.lists.proofs.Counting.{count-none, count-total, count-map, count-flat-map, one-counted, total-same}
 use Rattle.lists.proofs.Each.{each-all}
-use Rattle.lists.proofs.Counting.{count-total, count-map, count-flat-map, one-counted, total-same}
 use Rattle.palette.proofs.LevelBins.{bin-below, histogram-length, bin-in-one-mode}
 
 pub histogram-in-length : (ps : List Pixel) (l : Level) (b : Branch) → length (histogramIn ps l b) ≡ binCount l

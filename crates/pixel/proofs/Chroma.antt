@@ -3,13 +3,13 @@ use Prim.Native.Nat.{ℕ, _+_, _*_, _-_, _≤_}
 use mathlib.Core.Path.{_≡_}
 use native.Mathlib.Omega.{arith}
 use native.Mathlib.Nat.{mul-le-mul}
-use Rattle.lists.proofs.Differences.{by-less}
+use Rattle.lists.proofs.Cases.{by-order}
 use Rattle.pixel.specs.declared.Pixel.{Pixel}
 use Rattle.pixel.specs.Colour.{chromaSquared}
 
 -- 2ab ≤ a² + b²
 twice-product : (a b : ℕ) → 2 * (a * b) ≤ a * a + b * b
-twice-product a b = by-less a b (λ h. far a b (omega arith)) (λ h. omega (arith, far b a h))
+twice-product a b = by-order a b (λ h. far a b (omega arith)) (λ h. omega (arith, far b a h))
   where
     far : (a b : ℕ) → a ≤ b → 2 * (a * b) ≤ a * a + b * b
     far a b h = let e : b ≡ a + (b - a) = omega arith in rw e (omega arith)
@@ -27,15 +27,15 @@ ordered a b c m h j l = apart (b - a) (c - b) (omega arith) (omega arith)
 -- in any order
 pub squares-le : (r g b m : ℕ) → r ≤ m → g ≤ m → b ≤ m → r * r + g * g + b * b ≤ m * m + (r * g + g * b + b * r)
 squares-le r g b m hr hg hb =
-    by-less r g
-    (λ h. by-less g b
+    by-order r g
+    (λ h. by-order g b
     (λ j. ordered r g b m (omega arith) (omega arith) hb)
-    (λ j. by-less r b
+    (λ j. by-order r b
     (λ k. omega (arith, ordered r b g m (omega arith) j hg))
     (λ k. omega (arith, ordered b r g m k (omega arith) hg))))
-    (λ h. by-less r b
+    (λ h. by-order r b
     (λ j. omega (arith, ordered g r b m h (omega arith) hb))
-    (λ j. by-less g b
+    (λ j. by-order g b
     (λ k. omega (arith, ordered g b r m (omega arith) j hr))
     (λ k. omega (arith, ordered b g r m k h hr))))
 
@@ -51,7 +51,7 @@ chroma-even p e f = let r : p .red ≡ p .blue = omega arith in rw (e, r) (omega
 -- ---- Q from how far apart G and B, and G + B and 2R, are
 apart-squared : (m n : ℕ) → (m - n + (n - m)) * (m - n + (n - m)) + 2 * (m * n) ≡ m * m + n * n
 apart-squared m n =
-    by-less m n
+    by-order m n
     (λ h. let e : m - n + (n - m) ≡ n - m = omega arith in rw e (omega (arith, far n m (n - m) (omega arith))))
     (λ h. let e : m - n + (n - m) ≡ m - n = omega arith in rw e (far m n (m - n) (omega arith)))
   where

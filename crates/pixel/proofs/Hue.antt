@@ -10,7 +10,7 @@ use borrow.Author.Needs.{needs}
 use borrow.Author.Tests.{leb-true, le-leb}
 use Rattle.lists.specs.Lists.{countIf}
 use Rattle.lists.proofs.Cases.{by-cond}
-use Rattle.lists.proofs.Tests.{count-le}
+use Rattle.lists.proofs.Counting.{count-le}
 use Rattle.pixel.specs.Colour.{Point, tangents, tangentsPassed, quarter, turnedOf, hueOf}
 
 cond-le : (t : Bool) (a b n : ℕ) → a ≤ n → b ≤ n → cond t a b ≤ n

@@ -1,11 +1,10 @@
 -- The laws of specs/Ranges, and each range by itself. Assumes nothing.
-use Prim.Native.Nat.{ℕ, _+_, _*_, _-_, _≤_, _<_}
+use Prim.Native.Nat.{ℕ, _+_, _*_, _≤_, _<_}
 use lib.Dec.{leb}
 use native.Mathlib.Omega.{arith}
 use borrow.Author.Tests.{leb-true, leb-false, le-leb}
-use Rattle.lists.proofs.Cases.{by-cond}
-use Rattle.lists.proofs.Differences.{by-less}
-use Rattle.lists.proofs.Tests.{largest-that-le, largest-that-passes, largest-that-above}
+use Rattle.lists.proofs.Cases.{by-cond, by-order}
+use Rattle.lists.proofs.LargestThat.{largest-that-le, largest-that-passes, largest-that-above}
 use Rattle.pixel.specs.declared.Pixel.{Pixel}
 use Rattle.pixel.specs.Colour.{Point, intensityBin, chromaSquared, saturationOf, saturationBin, isGrey, huePoint, hueOf, hueBin, measuresOf}
 use Rattle.pixel.specs.Ranges.{Bytes, AlwaysInRange, ChromaWhole, AlwaysLargest, TurnedToFirst, ColouredTurns}
@@ -56,15 +55,15 @@ turned-first c q a b t h =
 pub coloured-turns : ColouredTurns
 unfolding isGrey
 coloured-turns p c =
-    by-less (p .green + p .blue) (2 * p .red)
-    (λ v. by-less (p .green) (p .blue)
+    by-order (p .green + p .blue) (2 * p .red)
+    (λ v. by-order (p .green) (p .blue)
     (λ u. turned-first (huePoint p) 2 _ _ (hue-turns-2 p u (omega arith)) (omega arith))
     (λ u. turned-first (huePoint p) 3 _ _ (hue-turns-3 p u (omega arith) (λ l. omega arith)) (omega arith)))
-    (λ v. by-less (p .blue) (p .green)
+    (λ v. by-order (p .blue) (p .green)
     (λ u. turned-first (huePoint p) 0 _ _ (hue-turns-0 p u v) (omega arith))
-    (λ u. by-less (2 * p .red) (p .green + p .blue)
+    (λ u. by-order (2 * p .red) (p .green + p .blue)
     (λ w. turned-first (huePoint p) 1 _ _ (hue-turns-1 p u w) (omega arith))
-    (λ w. by-less (p .green) (p .blue)
+    (λ w. by-order (p .green) (p .blue)
     (λ s. turned-first (huePoint p) 2 _ _ (hue-turns-2 p s w) (omega arith))
     (λ s. let q = leb-false (chromaSquared p) 136 c in
     let none : ⊥ = omega (arith, chroma-even p (omega arith) (omega arith)) in

@@ -6,15 +6,14 @@ use lib.Dec.{leb}
 use native.Mathlib.Omega.{arith}
 use native.Mathlib.Nat.{mul-le-mul}
 use borrow.Author.Tests.{leb-true, leb-false, le-leb}
-use Rattle.lists.proofs.Cases.{by-cond}
-use Rattle.lists.proofs.Differences.{by-less}
-use Rattle.lists.proofs.Tests.{largest-that-unique}
+use Rattle.lists.proofs.Cases.{by-cond, by-order}
+use Rattle.lists.proofs.LargestThat.{largest-that-unique}
 use Rattle.pixel.specs.Root.{RootWithin}
 use Rattle.pixel.specs.Colour.{saturationOf}
 
 -- bins begin in order
 pub begins-below : (j k n : ℕ) → 75 * (j * j) ≤ n → n < 75 * (k * k) → j < k
-begins-below j k n h l = by-less j k (λ o. o) (λ o. omega (arith, mul-le-mul o o))
+begins-below j k n h l = by-order j k (λ o. o) (λ o. omega (arith, mul-le-mul o o))
 
 -- the bin that begins at or below 2Q, when the next begins above
 pub saturation-is : (q j : ℕ) → q ≤ 65025 → 75 * (j * j) ≤ 2 * q → 2 * q < 75 * ((j + 1) * (j + 1)) → saturationOf q ≡ j

@@ -18,7 +18,7 @@ use Rattle.lists.proofs.Repeats.{map-replicate-append}
 use Rattle.pooling.proofs.Heavy.{Cut, Rises, forms-cut}
 use Rattle.pooling.proofs.Cuts.{cut-full}
 use Rattle.pooling.proofs.Gap.{levels, Splits, cut-far}
-use Rattle.pooling.proofs.Levels.{levels-length, levels-total}
+use Rattle.pooling.proofs.FittedLevels.{levels-length, levels-total}
 use Rattle.pooling.proofs.Scale.{divides, same-of-times, grows-times}
 
 -- the means, block by block

@@ -2,7 +2,7 @@ pub mod Leading
 pub mod Heavy
 pub mod Cuts
 pub mod Gap
-pub mod Levels
+pub mod FittedLevels
 pub mod Scale
 pub mod Fit
 pub mod Unique

@@ -1,6 +1,6 @@
 -- A join of segments that are held in two lists, and what the joins leave. Assumes nothing.
 use Prim.Native.Nat.{ℕ, zero, suc, _+_, _-_, _≤_, _<_}
-use mathlib.Core.Path.{_≡_, refl, sym, ap, subst, _∙_}
+use mathlib.Core.Path.{_≡_, refl, sym, ap, _∙_}
 use mathlib.Core.Bool.{Bool, true, false, cond, not, false≢true}
 use mathlib.Core.List.{List, _∷_, _++_}
 use mathlib.Core.Option.{Option, none, some}
@@ -14,7 +14,7 @@ use Rattle.lists.proofs.Shifts.{shift-before, shift-at}
 use Rattle.lists.specs.Lists.{maybe}
 use Rattle.verdict.specs.Test.{Closeness}
 use Rattle.segmentation.specs.Segments.{Segment, segmentAt, firstSegments}
-use Rattle.segmentation.specs.Joining.{Reader, lineReader, Join, joined, join, joinOf, cheapest, nextJoin, joinAll, lineModes}
+use Rattle.segmentation.specs.Joining.{Reader, lineReader, Join, joined, join, nextJoin, joinAll, lineModes}
 use Rattle.segmentation.specs.Held.{segmentsHeld, joinFound}
 use Rattle.segmentation.specs.Finished.{Cut}
 use Rattle.segmentation.proofs.Holding.{held-length, held-at}

@@ -10,6 +10,7 @@ use lib.Seq.{getD-append-seam, getD-take, getD-drop, take-all}
 use borrow.Author.Tests.{eqb-true, eqb-false}
 use Rattle.lists.specs.Lists.{total, part, numbers, filter}
 use Rattle.lists.proofs.Cases.{by-cond, by-order}
+use Rattle.lists.proofs.Sums.{member-le}
 use Rattle.lists.proofs.Filters.{linked-at, Neighbours, filter-neighbours}
 use Rattle.pooling.specs.Blocks.{Direction, increasing, decreasing}
 use Rattle.verdict.specs.Test.{Closeness}
@@ -137,16 +138,11 @@ first-humps e h two m l =
     }
 
 -- ---- and none is empty
-member-total : (xs : List ℕ) (i : ℕ) → getD xs i 0 ≤ total xs
-member-total [] i = omega arith
-member-total (x ∷ xs) zero = omega arith
-member-total (x ∷ xs) (suc i) = omega (arith, member-total xs i)
-
 some-total : (h : List ℕ) (s k p : ℕ) → s ≤ p → p < s + k → 0 < binAt h p → 0 < total (take k (drop s h))
 some-total h s k p a b c =
     let z : s + (p - s) ≡ p = omega arith in
     let e : getD (take k (drop s h)) (p - s) 0 ≡ binAt h p = getD-take k (drop s h) (p - s) 0 (omega arith) ∙ getD-drop s h (p - s) 0 ∙ ap (binAt h) z in
-    omega (arith, member-total (take k (drop s h)) (p - s))
+    omega (arith, member-le (take k (drop s h)) (p - s))
 
 pub first-counts : (h : List ℕ) → 2 ≤ length h → 0 < total h → (m : ℕ) → m < length (firstSegments h) → 0 < modeCount h (firstSegments h) m
 unfolding modeCount

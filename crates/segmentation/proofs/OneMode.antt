@@ -1,7 +1,7 @@
 -- Each bin of a line that is cut into modes lies in exactly one of them: the last that starts at or before it. Assumes nothing.
 use Prim.Native.Nat.{ℕ, suc, _-_, _≤_, _<_}
 use mathlib.Core.Path.{_≡_, refl, ap}
-use mathlib.Core.Bool.{Bool, true, false, _&&_, _||_, false≢true, or-true}
+use mathlib.Core.Bool.{Bool, true, false, _&&_, _||_, or-true}
 use mathlib.Core.List.{List}
 use lib.Dec.{leb, ltb, eqb}
 use lib.ListN.{length}
@@ -9,15 +9,11 @@ use native.Mathlib.Omega.{arith}
 use borrow.Author.Tests.{ltb-true, leb-true, eqb-true, le-leb, lt-ltb, eq-eqb}
 use Rattle.lists.specs.Lists.{largestThat, ExactlyOne}
 use Rattle.lists.proofs.Cases.{by-order}
-use Rattle.lists.proofs.Tests.{largest-that-le, largest-that-passes, largest-that-above}
+use Rattle.lists.proofs.Connectives.{both-true}
+use Rattle.lists.proofs.LargestThat.{largest-that-le, largest-that-passes, largest-that-above}
 use Rattle.segmentation.specs.Segments.{Segment, segmentAt, inMode}
 use Rattle.segmentation.specs.Finished.{Cut}
 use Rattle.segmentation.proofs.Kept.{starts-ascend}
-
-both : (t u : Bool) → (t && u) ≡ true → (t ≡ true) × (u ≡ true)
-both true true e = (refl, refl)
-both true false e = absurd (false≢true e)
-both false u e = absurd (false≢true e)
 
 -- ---- the test by what it says
 module _ (ss : List Segment) (m b : ℕ) where
@@ -32,15 +28,15 @@ module _ (ss : List Segment) (m b : ℕ) where
 
   pub mode-from : inMode ss m b ≡ true → segmentAt ss m .start ≤ b
   unfolding inMode
-  mode-from t = leb-true (segmentAt ss m .start) b (both (leb (segmentAt ss m .start) b) _ t .0)
+  mode-from t = leb-true (segmentAt ss m .start) b (both-true (leb (segmentAt ss m .start) b) _ t .0)
 
   pub mode-before : inMode ss m b ≡ true → suc m < length ss → b < segmentAt ss m .end
   unfolding inMode
-  mode-before t l = go (ltb b (segmentAt ss m .end)) refl (both (leb (segmentAt ss m .start) b) _ t .1)
+  mode-before t l = go (ltb b (segmentAt ss m .end)) refl (both-true (leb (segmentAt ss m .start) b) _ t .1)
     where
       go : (u : Bool) → ltb b (segmentAt ss m .end) ≡ u → (u || (eqb (suc m) (length ss) && eqb b (segmentAt ss m .end))) ≡ true → b < segmentAt ss m .end
       go true q e = ltb-true b (segmentAt ss m .end) q
-      go false q e = absurd (omega (arith, eqb-true (suc m) (length ss) (both (eqb (suc m) (length ss)) (eqb b (segmentAt ss m .end)) e .0)))
+      go false q e = absurd (omega (arith, eqb-true (suc m) (length ss) (both-true (eqb (suc m) (length ss)) (eqb b (segmentAt ss m .end)) e .0)))
 
 module _ (bins : ℕ) (ss : List Segment) (c : Cut bins ss) (b : ℕ) (l : b < bins) where
   started : ℕ → Bool

@@ -7,7 +7,7 @@ use lib.ListN.{length, take, getD, length-map, List·getD-map}
 use lib.Seq.{take-at}
 use Rattle.lists.specs.Lists.{ExactlyOne}
 use Rattle.lists.proofs.Cases.{by-order, last-or}
-use Rattle.lists.proofs.Rotations.{count-different}
+use Rattle.lists.proofs.Counting.{count-different}
 use Rattle.verdict.specs.Test.{Closeness}
 use Rattle.segmentation.specs.Segments.{Segment, segmentAt, inMode}
 use Rattle.segmentation.specs.Joining.{lineModes, lineSeparators}

@@ -12,8 +12,9 @@ use borrow.Author.Tests.{ltb-true}
 use Rattle.lists.specs.Lists.{total, over}
 use Rattle.lists.proofs.Cases.{by-order}
 use Rattle.lists.proofs.Lowest.{lowest-in, lowest-le, lowest-first}
-use Rattle.lists.proofs.Rotations.{mod-below, mod-above, opened-length, opened-at, opened-total, over-take}
-use Rattle.verdict.specs.Tables.{Small}
+use Rattle.lists.proofs.Rotations.{mod-below, mod-above, opened-length, opened-at, opened-total}
+use Rattle.lists.proofs.Buffers.{over-take}
+use Rattle.verdict.specs.Scratch.{Small}
 use Rattle.segmentation.specs.Segments.{binAt}
 use Rattle.segmentation.specs.Ring.{opening, opened, ringBin, linePlace}
 

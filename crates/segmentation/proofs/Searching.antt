@@ -11,13 +11,12 @@ use lib.IntN.{ℤ, pos}
 use lib.Signed.{ltZ, mag, _≤ℤ_}
 use Rattle.lists.specs.Lists.{part, firstThat, numbers}
 use Rattle.lists.proofs.Cases.{by-cond}
-use Rattle.lists.proofs.Signed.{nlt-le-ℤ}
+use Rattle.lists.proofs.Signed.{nlt-le-ℤ, lt-no, lt-le-lt}
 use Rattle.lists.proofs.Sums.{total-part-le}
-use Rattle.lists.proofs.Signed.{lt-no, lt-le-lt}
 use Rattle.lists.proofs.Leasts.{leastOf, foundAmong, found-lowest}
 use Rattle.pooling.specs.Blocks.{increasing, decreasing}
 use Rattle.verdict.specs.Test.{Closeness, cost}
-use Rattle.verdict.specs.Tables.{Small, Capped}
+use Rattle.verdict.specs.Scratch.{Small, Capped}
 use Rattle.segmentation.specs.declared.Found.{Found}
 use Rattle.segmentation.specs.Joining.{Join, Reader, lineReader, riseOf, fallOf, riseCost, fallCost, joinOf, cheapest, nextJoin}
 use Rattle.segmentation.specs.Segments.{Segment}

@@ -8,7 +8,7 @@ use lib.ListN.{length}
 use lib.IntN.{ℤ, pos}
 use lib.Signed.{ltZ, mag, _≤ℤ_}
 use Rattle.verdict.specs.Test.{Closeness, mostCloseness}
-use Rattle.verdict.specs.Tables.{Small}
+use Rattle.verdict.specs.Scratch.{Small}
 use Rattle.segmentation.specs.declared.Found.{Found}
 use Rattle.segmentation.specs.Joining.{Join}
 use Rattle.segmentation.specs.Finished.{Cut}

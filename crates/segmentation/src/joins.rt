@@ -7,7 +7,7 @@ ghost use Prim.Native.Nat.{_+_, _-_, _≤_, _<_};
 ghost use lib.ListN.{length, drop};
 ghost use lib.Seq.{paste};
 ghost use Rattle.verdict.specs.Test.{mostCloseness};
-ghost use Rattle.verdict.specs.Tables.{Small};
+ghost use Rattle.verdict.specs.Scratch.{Small};
 ghost use Rattle.segmentation.specs.Joining.{lineReader, join, joinAll, lineModes};
 ghost use Rattle.segmentation.specs.Held.{segmentsHeld};
 ghost use Rattle.segmentation.specs.Finished.{Cut};

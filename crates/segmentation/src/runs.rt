@@ -11,7 +11,7 @@ ghost use lib.Signed.{ltZ, mag};
 ghost use Rattle.lists.specs.Lists.{part};
 ghost use Rattle.pooling.specs.Blocks.{direction};
 ghost use Rattle.verdict.specs.Test.{cost, mostCloseness};
-ghost use Rattle.verdict.specs.Tables.{Small, Capped};
+ghost use Rattle.verdict.specs.Scratch.{Small, Capped};
 ghost use Rattle.segmentation.specs.Joining.{lineReader, joinOf, cheapest, nextJoin};
 ghost use Rattle.segmentation.specs.Finished.{Cut};
 ghost use Rattle.segmentation.specs.Held.{segmentsHeld, joinFound};

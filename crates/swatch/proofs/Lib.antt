@@ -1,4 +1,4 @@
-pub mod Fits
+pub mod PrintedLengths
 pub mod Fields
 pub mod Lines
 pub mod Rows

@@ -1,4 +1,4 @@
--- What the reading makes of a text longer than any swatch, by `LongText`: its header and its size decide. Assumes nothing.
+-- What the reading makes of a text longer than any swatch, by `LongReading`: its header and its size decide. Assumes nothing.
 use Prim.Native.Nat.{ℕ, suc, _≤_, _<_}
 use mathlib.Core.Path.{_≡_, refl, sym, ap, _∙_}
 use mathlib.Core.Bool.{Bool, true, false, cond}
@@ -10,7 +10,7 @@ use lib.Seq.{take-take, length-take-le}
 use Rattle.lists.specs.Lists.{missing}
 use Rattle.lists.proofs.Cases.{by-cond}
 use Rattle.swatch.specs.Input.{headerOf, sizeOf, pixelBytes}
-use Rattle.swatch.specs.Reading.{badSize, swatchNumber, readingOf, longestSwatch, LongText}
+use Rattle.swatch.specs.Reading.{badSize, swatchNumber, readingOf, longestSwatch, LongReading}
 use Rattle.swatch.proofs.Lines.{header-at}
 use Rattle.swatch.proofs.Rows.{bytes-none}
 use Rattle.swatch.proofs.Numbers.{size-fits}
@@ -49,7 +49,7 @@ longest-header : 13 ≤ suc longestSwatch
 unfolding longestSwatch
 longest-header = omega arith
 
-pub long-text : LongText
+pub long-text : LongReading
 unfolding readingOf
 long-text text h =
     let n : ℕ = suc longestSwatch in

@@ -29,9 +29,9 @@ printedCard pixels closeness es = printedLine (length es ∷ pixels ∷ closenes
 unfoldable pub printedMost : ℕ
 printedMost = 19 + 49 * mostEntries
 
--- how many bytes a card prints; proved in proofs/Fits
+-- how many bytes a card prints; proved in proofs/PrintedLengths
 abbrev pub PrintedLength : Type 0
 PrintedLength = (pixels closeness : ℕ) (es : List Entry) → length (printedCard pixels closeness es) ≡ 19 + 49 * length es
 
-abbrev pub PrintedFits : Type 0
-PrintedFits = (pixels closeness : ℕ) (es : List Entry) → length es ≤ mostEntries → length (printedCard pixels closeness es) ≤ printedMost
+abbrev pub CardFits : Type 0
+CardFits = (pixels closeness : ℕ) (es : List Entry) → length es ≤ mostEntries → length (printedCard pixels closeness es) ≤ printedMost

@@ -2,7 +2,7 @@
 --   given                       a value that may be missing, as the code hands it back
 --   colourField                 a field of 0 to 255
 --   swatchNumber, readingOf     the number of a text; its number and how many pixels it has
---   longestSwatch, LongText     the bytes of the longest swatch; what the reading makes of longer texts
+--   longestSwatch, LongReading     the bytes of the longest swatch; what the reading makes of longer texts
 use Prim.Native.Nat.{ℕ, suc, _*_, _<_}
 use mathlib.Core.Path.{_≡_}
 use mathlib.Core.Bool.{Bool, cond, _||_}
@@ -42,5 +42,5 @@ unfoldable pub longestSwatch : ℕ
 longestSwatch = 13 * suc mostSwatchPixels
 
 -- X8: a text longer than any swatch is turned down, with the number that one byte more than the longest swatch already has
-abbrev pub LongText : Type 0
-LongText = (text : List ℕ) → longestSwatch < length text → (readingOf (take (suc longestSwatch) text) ≡ readingOf text) × (0 < swatchNumber text)
+abbrev pub LongReading : Type 0
+LongReading = (text : List ℕ) → longestSwatch < length text → (readingOf (take (suc longestSwatch) text) ≡ readingOf text) × (0 < swatchNumber text)

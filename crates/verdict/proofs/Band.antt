@@ -21,7 +21,7 @@ use Rattle.logarithm.proofs.Within.{always-bounded}
 use Rattle.pooling.specs.Blocks.{Direction, blocks}
 use Rattle.verdict.specs.declared.Mass.{Mass}
 use Rattle.verdict.specs.Test.{Closeness, fittedMass, weight, partWeight, bar, largestWeight, cost, rejected}
-use Rattle.verdict.specs.Exactness.{observed, expected, exactBar, InRange, partX, partBar, Exact}
+use Rattle.verdict.specs.Exactness.{observed, expected, exactBar, LogsDefined, partX, partBar, Exact}
 use Rattle.verdict.proofs.Terms.{observedLog, expectedLog, Ranged, counted, massed, remaining, parts-range}
 use Rattle.verdict.proofs.Largest.{largest-part, part-largest}
 
@@ -62,7 +62,7 @@ module _ (n k x y : ℕ) (fits : k ≤ n) (first : Ranged k x) (rest : Ranged (n
       gathered : (a b : ℕ) → a + 2 * k + (b + 2 * (n - k)) ≡ a + b + 2 * n
       gathered a b = omega arith
 
-module _ (n k : ℕ) (m : Mass) (r : InRange n k m) where
+module _ (n k : ℕ) (m : Mass) (r : LogsDefined n k m) where
   observed-low : 2 ^ observedLog n k m ≤ observed n k m ^ unitsPerBit
   unfolding observed
   observed-low = pair-low n k (k * m .den) ((n - k) * m .den) (r .partial) (counted n k m r k (r .partial)) (counted n k m r (n - k) (omega arith))
@@ -129,7 +129,7 @@ band-below p m t n x y b h hx ly lb =
     moved = omega arith
 
 -- ---- one part: its weight reaches the bar, or does not
-module _ (e l n k : ℕ) (m : Mass) (least : 2 ≤ l) (most : l ≤ 257) (r : InRange n k m) where
+module _ (e l n k : ℕ) (m : Mass) (least : 2 ≤ l) (most : l ≤ 257) (r : LogsDefined n k m) where
   weight-above : leZ (pos (bar e l)) (weight n k m) ≡ true → (exactBar e l * expected n k m) ^ unitsPerBit < observed n k m ^ unitsPerBit * 2 ^ (2 * n + 2)
   weight-above q =
       rw mul-pow
@@ -151,7 +151,7 @@ rejected-is e w h least =
     ap (λ (b : Bool). b && leZ (pos 0) (cost e w h)) (le-leb 2 (length h) least) ∙ less-bar (largestWeight h (blocks w h)) (bar e (length h))
 
 pub exact : (e : Closeness) (w : Direction) (h : List ℕ) → 2 ≤ length h → length h ≤ 257
-    → ((i j : ℕ) → i ≤ j → j < length h → InRange (total h) (total (part i j h)) (fittedMass h (blocks w h) i j)) → Exact e w h
+    → ((i j : ℕ) → i ≤ j → j < length h → LogsDefined (total h) (total (part i j h)) (fittedMass h (blocks w h) i j)) → Exact e w h
 unfolding partWeight partX partBar
 exact e w h least most ranges =
     record {

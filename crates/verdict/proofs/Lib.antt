@@ -2,7 +2,7 @@ pub mod Machine
 mod Terms
 mod Largest
 pub mod Masses
-mod Tables
+mod Scratch
 pub mod Range
 mod Sizes
 mod Caps

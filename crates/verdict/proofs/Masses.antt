@@ -18,7 +18,7 @@ use Rattle.pooling.specs.Blocks.{Direction, blocks}
 use Rattle.pooling.specs.Best.{CutInto}
 use Rattle.pooling.proofs.Gap.{levels, Splits}
 use Rattle.pooling.proofs.Cuts.{begins-sum, PlaceOf}
-use Rattle.pooling.proofs.Levels.{upTo, up-to, begins-splits}
+use Rattle.pooling.proofs.FittedLevels.{upTo, up-to, begins-splits}
 use Rattle.pooling.proofs.Places.{place-of, places-same, places-apart}
 use Rattle.pooling.proofs.Laws.{means-splits, means-part, blocks-cut}
 use Rattle.verdict.specs.declared.Mass.{Mass}

@@ -14,7 +14,7 @@ use Rattle.pooling.specs.Blocks.{Direction, increasing, decreasing, blocks, spr
 use Rattle.pooling.specs.Fraction.{Fraction, _≈_, Proper, Ordered, OrderedFrom, Follows, CommonDenominator, sq, error}
 use Rattle.pooling.specs.Best.{mean, means, at}
 use Rattle.pooling.proofs.Gap.{levels, Splits}
-use Rattle.pooling.proofs.Levels.{upTo, up-to-more, begins-splits}
+use Rattle.pooling.proofs.FittedLevels.{upTo, up-to-more, begins-splits}
 use Rattle.pooling.proofs.Places.{nowhere, place-block}
 use Rattle.pooling.proofs.Laws.{blocks-cut, fit-best}
 use Rattle.pooling.proofs.Always.{denominator-exists, blocks-split}

@@ -13,13 +13,13 @@ use Rattle.pooling.specs.Blocks.{Direction, blocks}
 use Rattle.pooling.specs.Best.{CutInto}
 use Rattle.pooling.proofs.Gap.{Splits}
 use Rattle.pooling.proofs.Cuts.{begins-fits}
-use Rattle.pooling.proofs.Levels.{part-grows, rest-grows, part-within}
+use Rattle.pooling.proofs.FittedLevels.{part-grows, rest-grows, part-within}
 use Rattle.pooling.proofs.Places.{places-apart}
 use Rattle.pooling.proofs.Laws.{blocks-cut}
 use Rattle.pooling.proofs.Always.{blocks-split}
 use Rattle.verdict.specs.declared.Mass.{Mass}
 use Rattle.verdict.specs.Test.{placeOf, massWithin, massAcross, fittedMass}
-use Rattle.verdict.specs.Exactness.{InRange}
+use Rattle.verdict.specs.Exactness.{LogsDefined}
 use Rattle.verdict.proofs.Masses.{by-blocks, mass-levels, mass-positive}
 
 -- ---- B: four times the product of two lengths is at most the square of their sum
@@ -67,7 +67,7 @@ mass-within : (D A B K N : ℕ) → 0 < D → A * D ≡ B * K → K ≤ D * N �
 mass-within D A B K N hD e g = le-of-mul-le-mul-right {k = D} (omega (arith, mul-le-mul-left B g)) hD
 
 range-over : {h : List ℕ} {bs : List Block} → CutInto h bs → (D : ℕ) → 0 < D → Splits D bs → length h ≤ 257 → total h ≤ 98304 → (i j : ℕ) → i ≤ j → j < length h
-    → InRange (total h) (total (part i j h)) (fittedMass h bs i j)
+    → LogsDefined (total h) (total (part i j h)) (fittedMass h bs i j)
 range-over {h = h} k D hD w hl hn i j o l =
     let hB = mass-positive k i j o l in
     let e = mass-levels k i j o l D w in
@@ -81,5 +81,5 @@ range-over {h = h} k D hD w hl hn i j o l =
     }
 
 pub in-range : (w : Direction) (h : List ℕ) → length h ≤ 257 → total h ≤ 98304 → (i j : ℕ) → i ≤ j → j < length h
-    → InRange (total h) (total (part i j h)) (fittedMass h (blocks w h) i j)
+    → LogsDefined (total h) (total (part i j h)) (fittedMass h (blocks w h) i j)
 in-range w h = let s = blocks-split w h in range-over (blocks-cut w h) (s .0) (s .1) (s .2)

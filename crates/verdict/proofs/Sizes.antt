@@ -9,7 +9,7 @@ use Rattle.logarithm.specs.Log.{lg, unitsPerBit, roundCount}
 use Rattle.logarithm.proofs.Laws.{lg-below}
 use Rattle.verdict.specs.declared.Mass.{Mass}
 use Rattle.verdict.specs.Test.{Closeness, mostCloseness, weight, bar}
-use Rattle.verdict.specs.Exactness.{InRange}
+use Rattle.verdict.specs.Exactness.{LogsDefined}
 use Rattle.verdict.proofs.Terms.{observedLog, expectedLog, Ranged, counted, massed, remaining, parts-range}
 
 -- room for finer units too
@@ -44,7 +44,7 @@ term-ranged zero x r = rw (zero-mul, zero-mul) (le-refl 0)
 term-ranged (suc f) x r = term-small (suc f) x (r .some (omega arith)) (r .below)
 
 -- with room for the bar
-pub weight-small : (n k : ℕ) (m : Mass) → InRange n k m → n ≤ 98304 → mag (weight n k m) < 2 ^ 62 - 2 ^ 46
+pub weight-small : (n k : ℕ) (m : Mass) → LogsDefined n k m → n ≤ 98304 → mag (weight n k m) < 2 ^ 62 - 2 ^ 46
 unfolding weight
 weight-small n k m r h =
     let a = term-ranged k (k * m .den) (counted n k m r k (r .partial)) in

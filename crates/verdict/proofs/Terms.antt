@@ -10,7 +10,7 @@ use Rattle.lists.proofs.Signed.{difference-is}
 use Rattle.logarithm.specs.Log.{lg}
 use Rattle.verdict.specs.declared.Mass.{Mass}
 use Rattle.verdict.specs.Test.{weight}
-use Rattle.verdict.specs.Exactness.{InRange}
+use Rattle.verdict.specs.Exactness.{LogsDefined}
 
 -- the two sums of logarithms of a weight: of X and of Y
 abbrev pub observedLog : ℕ → ℕ → Mass → ℕ
@@ -51,7 +51,7 @@ pub record Logged (x : ℕ) : Type 0 where
 pub logged : {k x : ℕ} → Ranged k x → 0 < k → Logged x
 logged r h = record { some = r .some h; below = r .below }
 
-module _ (n k : ℕ) (m : Mass) (r : InRange n k m) where
+module _ (n k : ℕ) (m : Mass) (r : LogsDefined n k m) where
   -- j of the n counts, times B
   pub counted : (j : ℕ) → j ≤ n → Ranged j (j * m .den)
   counted j l = record { some = λ p. mul-pos p (r .positive); below = lt-of-le-of-lt (mul-le-mul-right (m .den) l) (r .below) }

@@ -26,7 +26,7 @@ unfoldable pub exactBar : Closeness → ℕ → ℕ
 exactBar e l = 2 ^ e * (l * suc l / 2)
 
 -- L1: what the logarithms of a weight ask of a part that holds k of the n counts: kB, (N−k)B, A and NB−A are below 2^32, and 1 or more where their factor is not 0
-pub record InRange (n k : ℕ) (m : Mass) : Type 0 where
+pub record LogsDefined (n k : ℕ) (m : Mass) : Type 0 where
   pub partial : k ≤ n
   pub positive : 0 < m .den
   pub within : m .num ≤ n * m .den
@@ -77,7 +77,7 @@ module _ (e : Closeness) (w : Direction) (h : List ℕ) where
   pub record VerdictSound : Type 0 where
     pub fit : Pooled w h
     pub masses : (i j : ℕ) → i ≤ j → j < length h → MassOfFit i j
-    pub inRange : (i j : ℕ) → i ≤ j → j < length h → InRange (total h) (total (part i j h)) (fittedMass h (blocks w h) i j)
+    pub inRange : (i j : ℕ) → i ≤ j → j < length h → LogsDefined (total h) (total (part i j h)) (fittedMass h (blocks w h) i j)
     pub exact : 2 ≤ length h → Exact
     pub monotone : 1 ≤ length h → Monotone w h → cost e w h ≡ negℤ (pos (bar e (length h)))
 

@@ -1,3 +1,3 @@
 pub mod Test
 pub mod Exactness
-pub mod Tables
+pub mod Scratch

@@ -14,7 +14,7 @@ ghost use lib.ListN.{length};
 ghost use lib.Signed.{ltZ, mag, _≤ℤ_};
 ghost use Rattle.pooling.specs.Blocks.{direction, blocks};
 ghost use Rattle.verdict.specs.Test.{partWeight, cost, mostCloseness};
-ghost use Rattle.verdict.specs.Tables.{Small, Tables, Capped, Attained, BestOf, EndingAt, firstOf, endOf, Turn, Part};
+ghost use Rattle.verdict.specs.Scratch.{Small, Scratch, Capped, Attained, BestOf, EndingAt, firstOf, endOf, Turn, Part};
 
 // A cap that no cost reaches: 2^62 - 1.
 const NO_CAP: i64 = 4611686018427387903;
@@ -30,7 +30,7 @@ fn part_weight(
     i: usize,
     j: usize,
 ) -> i64
-    requires { ⌜ Tables (direction rising) (now h) (now before) (now starts) (now sums) (now lens) ⌝ }
+    requires { ⌜ Scratch (direction rising) (now h) (now before) (now starts) (now sums) (now lens) ⌝ }
     requires { ⌜ (i ≤ j) × (j < length (now h)) ⌝ }
     ensures { λ r. ⌜ r ≡ partWeight (now (h .entry)) (blocks (direction rising) (now (h .entry))) i j ⌝ }
 {
@@ -60,7 +60,7 @@ fn best_ending_at(
     best: i64,
     limit: i64,
 ) -> i64
-    requires { ⌜ Tables (direction rising) (now h) (now before) (now starts) (now sums) (now lens) ⌝ }
+    requires { ⌜ Scratch (direction rising) (now h) (now before) (now starts) (now sums) (now lens) ⌝ }
     requires { ⌜ (j < length (now h)) × (end ≤ suc j) ⌝ }
     requires { ⌜ Attained (now h) (blocks (direction rising) (now h)) best ⌝ }
     ensures { λ r. ⌜ best ≤ℤ r ⌝ }
@@ -107,7 +107,7 @@ fn best_in_turn(
     best: i64,
     limit: i64,
 ) -> i64
-    requires { ⌜ Tables (direction rising) (now h) (now before) (now starts) (now sums) (now lens) ⌝ }
+    requires { ⌜ Scratch (direction rising) (now h) (now before) (now starts) (now sums) (now lens) ⌝ }
     requires { ⌜ Attained (now h) (blocks (direction rising) (now h)) best ⌝ }
     ensures { λ r. ⌜ best ≤ℤ r ⌝ }
     ensures { λ r. ⌜ BestOf (now (h .entry)) (blocks (direction rising) (now (h .entry))) limit (Turn within (now (starts .entry)) (length (now (h .entry)))) r ⌝ }
@@ -148,7 +148,7 @@ fn best_weight(
     lens: &[u32; 257],
     limit: i64,
 ) -> i64
-    requires { ⌜ Tables (direction rising) (now h) (now before) (now starts) (now sums) (now lens) ⌝ }
+    requires { ⌜ Scratch (direction rising) (now h) (now before) (now starts) (now sums) (now lens) ⌝ }
     requires { ⌜ 1 ≤ length (now h) ⌝ }
     ensures { λ r. ⌜ BestOf (now (h .entry)) (blocks (direction rising) (now (h .entry))) limit (Part (now (h .entry))) r ⌝ }
 {

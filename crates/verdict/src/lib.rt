@@ -13,7 +13,7 @@ ghost use Prim.Native.Nat.{_≤_};
 ghost use lib.ListN.{length};
 ghost use Rattle.pooling.specs.Blocks.{direction};
 ghost use Rattle.verdict.specs.Test.{verdictOf, mostCloseness};
-ghost use Rattle.verdict.specs.Tables.{Small};
+ghost use Rattle.verdict.specs.Scratch.{Small};
 
 // Closeness: each step asks for one bit more of evidence before a stretch is rejected (rule T4).
 pub const MOST_CLOSENESS: u32 = 20;

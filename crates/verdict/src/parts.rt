@@ -7,7 +7,7 @@ ghost use Prim.Native.Nat.{_≤_, _<_};
 ghost use lib.ListN.{length};
 ghost use Rattle.pooling.specs.Blocks.{direction, blocks};
 ghost use Rattle.verdict.specs.Test.{placeOf, massWithin, massOfThree, massAcross, fittedMass};
-ghost use Rattle.verdict.specs.Tables.{Small, RunningTotals, PlacesHeld, Across, Tables};
+ghost use Rattle.verdict.specs.Scratch.{Small, RunningTotals, PlacesHeld, Across, Scratch};
 
 pub fn wide(x: u32) -> u64
     ensures { λ r. ⌜ r ≡ x ⌝ }
@@ -119,7 +119,7 @@ pub fn part_mass(
     i: usize,
     j: usize,
 ) -> Mass
-    requires { ⌜ Tables (direction rising) (now h) (now before) (now starts) (now sums) (now lens) ⌝ }
+    requires { ⌜ Scratch (direction rising) (now h) (now before) (now starts) (now sums) (now lens) ⌝ }
     requires { ⌜ (i ≤ j) × (j < length (now h)) ⌝ }
     ensures { λ r. ⌜ r ≡ fittedMass (now (h .entry)) (blocks (direction rising) (now (h .entry))) i j ⌝ }
 {

@@ -7,7 +7,7 @@ ghost use Prim.Native.Nat.{_+_, _*_, _≤_, _<_, _^_};
 ghost use lib.IntN.{subℕ};
 ghost use Rattle.logarithm.specs.Log.{lg};
 ghost use Rattle.verdict.specs.Test.{weight, bar, mostCloseness};
-ghost use Rattle.verdict.specs.Exactness.{InRange};
+ghost use Rattle.verdict.specs.Exactness.{LogsDefined};
 
 // A term whose factor holds all counts: the other factor is 0, and its logarithms are not taken.
 fn one_term(n: u64, p: u64, q: u64) -> i64
@@ -30,7 +30,7 @@ fn two_terms(k: u64, rest: u64, p: u64, s: u64, q: u64, t: u64) -> i64
 
 // The weight of a part that holds k of the n counts. Where the fitted mass is the count itself, no logarithm is taken.
 pub fn weight(n: u64, k: u64, m: Mass) -> i64
-    requires { ⌜ (n ≤ 98304) × InRange n k m ⌝ }
+    requires { ⌜ (n ≤ 98304) × LogsDefined n k m ⌝ }
     ensures { λ r. ⌜ r ≡ weight n k m ⌝ }
 {
     if m.num == k * m.den {

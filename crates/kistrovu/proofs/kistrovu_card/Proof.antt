@@ -7,24 +7,7 @@ use Rattle.lists.specs.Lists.{padded}
 use Rattle.making.specs.declared.CardEntries.{CardEntries}
 use Rattle.palette.specs.Cards.{pixelsOf, entries, mostEntries, noEntry}
 use Rattle.kistrovu.specs.Grounds.{cardNumber}
-use Rattle.kistrovu.proofs.Cards.{
-  made,
-  Asked,
-  card-turned-down,
-  asked-none,
-  card-refused,
-  labels-as-lent,
-  card-served,
-  labels-served,
-  many-number,
-  few-number,
-  many-entries,
-  few-entries,
-  many-left,
-  few-left,
-  total-is,
-  card-sound,
-}
+use Rattle.kistrovu.proofs.Cards.{made, card-turned-down, asked-none, card-refused, labels-as-lent, card-served, labels-served, many-number, few-number, many-entries, few-entries, many-left, few-left, total-is, card-sound}
 use borrow.Author.Needs.{needs}
 use Rattle.kistrovu.proofs.kistrovu_card.Statement.{statement}
 use Rattle.kistrovu.proofs.kistrovu_card.Tie as tie

@@ -4,7 +4,7 @@ use native.Mathlib.Omega.{arith}
 use Rattle.pooling.specs.Blocks.{direction}
 use Rattle.pooling.proofs.Always.{always-pooled}
 use Rattle.kistrovu.proofs.Served.{fit-served}
-use Rattle.kistrovu.proofs.Fits.{fit-answer-served, fit-answer-turned-down}
+use Rattle.kistrovu.proofs.FitAnswers.{fit-answer-served, fit-answer-turned-down}
 use borrow.Author.Needs.{needs}
 use Rattle.kistrovu.proofs.kistrovu_fit.Statement.{statement}
 use Rattle.kistrovu.proofs.kistrovu_fit.Tie as tie

@@ -7,8 +7,7 @@ use native.Mathlib.Omega.{arith}
 use borrow.Author.Needs.{needs}
 use lib.ListN.{length, take, set, length-set, length-map, List·getD-map}
 use Rattle.lists.specs.Lists.{over}
-use Rattle.lists.proofs.Buffers.{over-none}
-use Rattle.lists.proofs.Writes.{over-next, over-done}
+use Rattle.lists.proofs.Buffers.{over-none, over-next, over-done}
 use Rattle.pixel.specs.declared.Pixel.{Pixel}
 use Rattle.pixel.specs.declared.Measures.{Measures}
 use Rattle.pixel.specs.Colour.{isGrey, saturationBin, intensityBin, hueBin, measuresOf}

@@ -3,7 +3,7 @@ use Prim.Native.Nat.{suc, _-_, _≤_}
 use mathlib.Core.Path.{_≡_, ap, _∙_}
 use native.Mathlib.Omega.{arith}
 use lib.ListN.{length, replicate}
-use Rattle.lists.proofs.Writes.{over-all}
+use Rattle.lists.proofs.Buffers.{over-all}
 use Rattle.segmentation.specs.Joining.{lineModes}
 use Rattle.segmentation.specs.Ring.{opened, ringModes}
 use Rattle.segmentation.proofs.Finishing.{modes-cut, separators-length}

@@ -5,8 +5,7 @@ use native.Mathlib.Omega.{arith}
 use borrow.Author.Needs.{needs}
 use lib.ListN.{length, take, replicate, length-set, length-replicate, getD-replicate}
 use Rattle.lists.specs.Lists.{over}
-use Rattle.lists.proofs.Buffers.{over-none}
-use Rattle.lists.proofs.Writes.{over-next, over-done}
+use Rattle.lists.proofs.Buffers.{over-none, over-next, over-done}
 use Rattle.dividing.proofs.tables.clear.Statement.{statement}
 use Rattle.dividing.proofs.tables.clear.Tie as tie
 

@@ -6,8 +6,7 @@ use native.Mathlib.Omega.{arith}
 use borrow.Author.Needs.{needs}
 use lib.ListN.{length, take, getD, set, length-set}
 use Rattle.lists.specs.Lists.{over}
-use Rattle.lists.proofs.Buffers.{over-none}
-use Rattle.lists.proofs.Writes.{over-next, over-later, over-done}
+use Rattle.lists.proofs.Buffers.{over-none, over-next, over-later, over-done}
 use Rattle.dividing.specs.Nodes.{AllBelow, cellsOf}
 use Rattle.dividing.proofs.Entering.{cells-length, cells-at}
 use Rattle.dividing.proofs.tables.enter.Statement.{statement}

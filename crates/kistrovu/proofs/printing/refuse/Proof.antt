@@ -3,7 +3,7 @@ use native.Mathlib.Omega.{arith}
 use mathlib.Core.List.{[], _∷_}
 use Rattle.palette.specs.Cards.{mostEntries}
 use Rattle.swatch.specs.Output.{printedMost}
-use Rattle.swatch.proofs.Fits.{line-length}
+use Rattle.swatch.proofs.PrintedLengths.{line-length}
 use borrow.Author.Needs.{needs}
 use Rattle.kistrovu.proofs.printing.refuse.Statement.{statement}
 use Rattle.kistrovu.proofs.printing.refuse.Tie as tie

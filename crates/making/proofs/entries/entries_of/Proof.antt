@@ -8,9 +8,8 @@ use lib.ListN.{length, take, getD, set, replicate, length-set}
 use lib.Seq.{take-all, length-take-le, getD-take}
 use lib.Dec.{eqb}
 use Rattle.lists.specs.Lists.{countIf, over}
-use Rattle.lists.proofs.Buffers.{over-none, over-padded}
-use Rattle.lists.proofs.Tests.{count-le}
-use Rattle.lists.proofs.Writes.{over-next}
+use Rattle.lists.proofs.Buffers.{over-none, over-padded, over-next}
+use Rattle.lists.proofs.Counting.{count-le}
 use Rattle.palette.specs.Cards.{pixelsOf, mostEntries, noEntry}
 use Rattle.palette.specs.declared.Entry.{Entry}
 use Rattle.making.specs.Making.{entriesBy}

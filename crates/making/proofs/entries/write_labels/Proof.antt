@@ -5,8 +5,7 @@ use native.Mathlib.Omega.{arith}
 use borrow.Author.Needs.{needs}
 use lib.ListN.{length, take, getD, length-set}
 use Rattle.lists.specs.Lists.{over}
-use Rattle.lists.proofs.Buffers.{over-none}
-use Rattle.lists.proofs.Writes.{over-next, over-done}
+use Rattle.lists.proofs.Buffers.{over-none, over-next, over-done}
 use Rattle.making.proofs.entries.write_labels.Statement.{statement}
 use Rattle.making.proofs.entries.write_labels.Tie as tie
 

@@ -6,8 +6,7 @@ use native.Mathlib.Omega.{arith}
 use borrow.Author.Needs.{needs}
 use lib.ListN.{length, take, getD, set, length-set}
 use Rattle.lists.specs.Lists.{over}
-use Rattle.lists.proofs.Buffers.{over-none}
-use Rattle.lists.proofs.Rotations.{over-take}
+use Rattle.lists.proofs.Buffers.{over-none, over-take}
 use Rattle.segmentation.proofs.listing.copy_first.Statement.{statement}
 use Rattle.segmentation.proofs.listing.copy_first.Tie as tie
 

@@ -1,5 +1,5 @@
 -- `ring_separators` meets its contract: the opened line is segmented, and its separators take the ring's numbers. Assumes nothing.
-use mathlib.Core.Path.{_≡_, sym, ap, subst, _∙_}
+use mathlib.Core.Path.{_≡_, ap, _∙_}
 use mathlib.Core.List.{List, map}
 use Prim.Native.Nat.{ℕ, suc, _+_, _%_, _≤_}
 use native.Mathlib.Omega.{arith}
@@ -8,7 +8,7 @@ use Rattle.lists.specs.Lists.{over}
 use Rattle.lists.proofs.Buffers.{over-front}
 use Rattle.segmentation.specs.Joining.{lineModes}
 use Rattle.segmentation.specs.Held.{segmentsHeld}
-use Rattle.segmentation.specs.Ring.{opening, opened}
+use Rattle.segmentation.specs.Ring.{opened}
 use Rattle.segmentation.proofs.RingPlaces.{ring-length, ring-small, opening-in}
 use Rattle.segmentation.proofs.Listed.{ring-listed-count, ring-listed-length, ring-numbers-listed}
 use borrow.Author.Needs.{needs}

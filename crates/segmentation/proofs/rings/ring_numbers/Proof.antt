@@ -7,8 +7,7 @@ use native.Mathlib.Nat.{mod-lt}
 use borrow.Author.Needs.{needs}
 use lib.ListN.{length, take, getD, length-set}
 use Rattle.lists.specs.Lists.{over}
-use Rattle.lists.proofs.Buffers.{over-none}
-use Rattle.lists.proofs.Rotations.{over-map}
+use Rattle.lists.proofs.Buffers.{over-none, over-map}
 use Rattle.segmentation.proofs.rings.ring_numbers.Statement.{statement}
 use Rattle.segmentation.proofs.rings.ring_numbers.Tie as tie
 

@@ -8,12 +8,11 @@ use lib.ListN.{length, take, getD}
 use lib.Seq.{length-take-le}
 use Rattle.lists.specs.Lists.{over}
 use Rattle.lists.proofs.Buffers.{over-more}
-use Rattle.lists.proofs.Pieces.{write-none}
-use Rattle.lists.proofs.Pieces.{write-piece}
+use Rattle.lists.proofs.Pieces.{write-none, write-piece}
 use Rattle.palette.specs.declared.Entry.{Entry}
 use Rattle.palette.specs.Cards.{mostEntries, noEntry}
 use Rattle.swatch.specs.Output.{printedLine, printedEntry, printedCard, printedMost}
-use Rattle.swatch.proofs.Fits.{line-length, entry-length, printed-length}
+use Rattle.swatch.proofs.PrintedLengths.{line-length, entry-length, printed-length}
 use Rattle.swatch.proofs.printing.print_card.Statement.{statement}
 use Rattle.swatch.proofs.printing.print_card.Tie as tie
 

@@ -7,10 +7,9 @@ use borrow.Author.Needs.{needs}
 use lib.ListN.{length, take}
 use lib.Seq.{take-all}
 use Rattle.lists.specs.Lists.{over}
-use Rattle.lists.proofs.Pieces.{write-none, write-store}
-use Rattle.lists.proofs.Pieces.{write-piece}
+use Rattle.lists.proofs.Pieces.{write-none, write-store, write-piece}
 use Rattle.swatch.specs.Output.{printedField, printedLine}
-use Rattle.swatch.proofs.Fits.{field-length, fields-length, line-length}
+use Rattle.swatch.proofs.PrintedLengths.{field-length, fields-length, line-length}
 use Rattle.swatch.proofs.printing.put_line.Statement.{statement}
 use Rattle.swatch.proofs.printing.put_line.Tie as tie
 

@@ -10,7 +10,7 @@ use borrow.Author.Needs.{needs}
 use borrow.Author.Tests.{not-true}
 use Rattle.lists.proofs.Signed.{le-trans-ℤ}
 use Rattle.pooling.specs.Blocks.{direction, blocks}
-use Rattle.verdict.specs.Tables.{BestOf, EndingAt}
+use Rattle.verdict.specs.Scratch.{BestOf, EndingAt}
 use Rattle.verdict.proofs.Machine.{handed-back}
 use Rattle.verdict.proofs.Caps.{larger-above, best-none, best-stops, best-same, best-more}
 use Rattle.verdict.proofs.costs.best_ending_at.Statement.{statement}

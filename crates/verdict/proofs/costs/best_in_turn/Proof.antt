@@ -11,7 +11,7 @@ use borrow.Author.Needs.{needs}
 use borrow.Author.Tests.{not-true}
 use Rattle.lists.proofs.Signed.{le-trans-ℤ}
 use Rattle.pooling.specs.Blocks.{direction, blocks}
-use Rattle.verdict.specs.Tables.{BestOf, Turn, firstOf, endOf}
+use Rattle.verdict.specs.Scratch.{BestOf, Turn, firstOf, endOf}
 use Rattle.verdict.proofs.Machine.{handed-back}
 use Rattle.verdict.proofs.Caps.{start-le, end-le, best-none, best-stops, best-same, best-bin}
 use Rattle.verdict.proofs.costs.best_in_turn.Statement.{statement}

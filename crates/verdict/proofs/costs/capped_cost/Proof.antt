@@ -10,7 +10,7 @@ use mir.ValLaws.{toZ-ofZ}
 use Rattle.pooling.specs.Blocks.{direction}
 use Rattle.verdict.specs.Test.{bar}
 use Rattle.verdict.proofs.Machine.{handed-back}
-use Rattle.verdict.proofs.Tables.{places-held}
+use Rattle.verdict.proofs.Scratch.{places-held}
 use Rattle.verdict.proofs.Sizes.{bar-small}
 use Rattle.verdict.proofs.Caps.{attained-small, capped-cost-is}
 use borrow.Author.Needs.{needs}

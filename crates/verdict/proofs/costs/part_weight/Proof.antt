@@ -7,7 +7,7 @@ use Rattle.lists.specs.Lists.{total, part}
 use Rattle.pooling.specs.Blocks.{direction}
 use Rattle.verdict.specs.Test.{partWeight}
 use Rattle.verdict.proofs.Machine.{handed-back}
-use Rattle.verdict.proofs.Tables.{running-all, running-part}
+use Rattle.verdict.proofs.Scratch.{running-all, running-part}
 use Rattle.verdict.proofs.Range.{in-range}
 use borrow.Author.Needs.{needs}
 use Rattle.verdict.proofs.costs.part_weight.Statement.{statement}

@@ -7,7 +7,7 @@ use lib.ListN.{getD, take, drop}
 use Rattle.lists.specs.Lists.{total}
 use Rattle.lists.proofs.Sums.{total-take-le}
 use Rattle.verdict.specs.Test.{massAcross}
-use Rattle.verdict.proofs.Tables.{running-between}
+use Rattle.verdict.proofs.Scratch.{running-between}
 use borrow.Author.Needs.{needs}
 use Rattle.verdict.proofs.parts.mass_across.Statement.{statement}
 use Rattle.verdict.proofs.parts.mass_across.Tie as tie

@@ -3,7 +3,7 @@ use mathlib.Core.Path.{_∙_}
 use native.Mathlib.Omega.{arith}
 use borrow.Author.Needs.{needs}
 use Rattle.pooling.specs.Blocks.{direction}
-use Rattle.verdict.proofs.Tables.{spot-sum-le, spots-same, spots-apart, spots-across}
+use Rattle.verdict.proofs.Scratch.{spot-sum-le, spots-same, spots-apart, spots-across}
 use Rattle.verdict.proofs.parts.part_mass.Statement.{statement}
 use Rattle.verdict.proofs.parts.part_mass.Tie as tie
 

@@ -6,7 +6,7 @@ use borrow.Author.Needs.{needs}
 use lib.ListN.{length, take, length-set}
 use Rattle.lists.specs.Lists.{total}
 use Rattle.lists.proofs.Sums.{total-more, total-at}
-use Rattle.verdict.proofs.Tables.{Filled, filled-none, filled-more}
+use Rattle.verdict.proofs.Scratch.{Filled, filled-none, filled-more}
 use Rattle.verdict.proofs.parts.running_totals.Statement.{statement}
 use Rattle.verdict.proofs.parts.running_totals.Tie as tie
 

@@ -7,7 +7,7 @@ use lib.ListN.{length, length-append}
 use Rattle.lists.proofs.Pieces.{flat-length}
 use Rattle.palette.specs.declared.Entry.{Entry}
 use Rattle.swatch.specs.Input.{lineFeed}
-use Rattle.swatch.specs.Output.{printedField, printedLine, printedEntry, printedCard, printedMost, PrintedLength, PrintedFits}
+use Rattle.swatch.specs.Output.{printedField, printedLine, printedEntry, printedCard, printedMost, PrintedLength, CardFits}
 
 pub field-length : (v : ℕ) → length (printedField v) ≡ 6
 unfolding printedField
@@ -30,6 +30,6 @@ printed-length pixels closeness es =
     length-append (printedLine (length es ∷ pixels ∷ closeness ∷ [])) (flatMap printedEntry es)
     ∙ omega (arith, line-length (length es ∷ pixels ∷ closeness ∷ []), flat-length printedEntry 49 entry-length es)
 
-pub printed-fits : PrintedFits
+pub printed-fits : CardFits
 unfolding printedMost
 printed-fits pixels closeness es h = omega (arith, printed-length pixels closeness es)

@@ -17,7 +17,7 @@ use Rattle.pooling.proofs.Cuts.{begins-fits, PlaceOf, place-sum-le}
 use Rattle.pooling.proofs.Places.{places-apart, places-read}
 use Rattle.pooling.proofs.Laws.{blocks-cut}
 use Rattle.verdict.specs.Test.{placeOf, massWithin, massAcross, fittedMass}
-use Rattle.verdict.specs.Tables.{RunningTotals, PlacesHeld, Across}
+use Rattle.verdict.specs.Scratch.{RunningTotals, PlacesHeld, Across}
 use Rattle.verdict.proofs.Masses.{bin-place, mass-same, mass-apart}
 
 -- ---- the running totals, filled from the first bin on

@@ -35,7 +35,7 @@ pub record Across (h : List ℕ) (p q : Place) (i j : ℕ) : Type 0 where
   pub inside : q .start + q .block .len ≤ length h
   pub sums : (p .block .sum ≤ total h) × (q .block .sum ≤ total h)
 
-pub record Tables (w : Direction) (h before starts sums lens : List ℕ) : Type 0 where
+pub record Scratch (w : Direction) (h before starts sums lens : List ℕ) : Type 0 where
   pub small : Small h
   pub running : RunningTotals h before
   pub places : PlacesHeld w h starts sums lens
