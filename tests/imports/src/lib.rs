@@ -58,7 +58,7 @@ fn parted<'a>(lines: &[&'a str]) -> (Vec<String>, Vec<&'a str>) {
         if open {
             let import: &mut String = imports.last_mut().expect("an import is open");
             import.push_str(line);
-        } else if words.iter().position(|word| *word == "use").is_some() {
+        } else if words.contains(&"use") {
             imports.push(line.to_string());
         } else {
             rest.push(*line);
