@@ -4,3 +4,4 @@ pub mod Lines
 pub mod Rows
 pub mod Numbers
 pub mod Long
+pub mod FieldRead
