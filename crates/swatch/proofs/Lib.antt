@@ -5,3 +5,5 @@ pub mod Rows
 pub mod Numbers
 pub mod Long
 pub mod FieldRead
+mod LineRead
+pub mod SwatchRead

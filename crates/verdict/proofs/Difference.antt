@@ -1,13 +1,12 @@
 -- A weight is the sum of its two signed terms. Assumes nothing.
-use Prim.Native.Nat.{ℕ, zero, suc, _+_, _*_, _-_, _≤_, _<_}
-use mathlib.Core.Path.{_≡_, refl, sym, ap, _∙_}
+use Prim.Native.Nat.{ℕ, zero, suc, _+_, _*_, _-_}
+use mathlib.Core.Path.{_≡_, sym, ap, _∙_}
 use native.Mathlib.Nat.{zero-mul, mul-le-mul-left}
 use native.Mathlib.Omega.{arith}
-use lib.IntN.{ℤ, pos, subℕ, negℤ, _+ℤ_, _-ℤ_, _*ℤ_, +ℤ-assoc, +ℤ-comm, negℤ-+ℤ, negℤ-negℤ}
+use lib.IntN.{ℤ, pos, subℕ, negℤ, _+ℤ_, _*ℤ_, +ℤ-assoc, +ℤ-comm, negℤ-+ℤ, negℤ-negℤ}
 use Rattle.lists.proofs.Differences.{by-sign, diff-above, diff-below}
 use Rattle.lists.proofs.Signed.{difference-is}
 use Rattle.logarithm.specs.Log.{lg}
-use Rattle.verdict.specs.declared.Mass.{Mass}
 use Rattle.verdict.specs.Test.{weight}
 use Rattle.verdict.specs.Difference.{term, signedWeight, WeightByTerms}
 
