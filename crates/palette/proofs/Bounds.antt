@@ -1,11 +1,10 @@
 -- How large the figures of an entry can be: its mode numbers, its means and its count. Assumes nothing.
-use Prim.Native.Nat.{ℕ, zero, suc, _+_, _*_, _/_, _≤_, _<_}
-use mathlib.Core.Path.{_≡_, sym}
-use mathlib.Core.List.{List, [], _∷_, map}
+use Prim.Native.Nat.{ℕ, suc, _*_, _≤_, _<_}
+use mathlib.Core.List.{List, [], _∷_}
 use native.Mathlib.Omega.{arith}
 use native.Mathlib.Nat.{div-zero, div-lt-iff-lt-mul}
 use lib.Dec.{eqb}
-use lib.ListN.{length, length-map}
+use lib.ListN.{length}
 use Rattle.lists.specs.Lists.{total, numbers}
 use Rattle.lists.proofs.Cases.{by-cond}
 use Rattle.lists.proofs.Each.{Each, each-from, each-at, each-so, each-append, each-flat-map, each-number, each-filter}
@@ -32,7 +31,7 @@ mean-byte (x ∷ xs) h = div-lt-iff-lt-mul {k = 2 * suc (length xs)} (omega arit
 
 -- ---- mode numbers
 -- those of a branch
-pub record Modes (b : Branch) : Type 0 where
+pub record SmallModes (b : Branch) : Type 0 where
   pub kind : b .kind ≤ 1
   pub hue : b .hue < binCount hue
   pub saturation : b .saturation < binCount saturation
@@ -45,35 +44,35 @@ few-bins intensity = omega arith
 
 module _ (e : Closeness) (ps : List Pixel) where
   -- a mode of a branch has a number below the bins of its level
-  child-modes : (l : Level) (b : Branch) (m : ℕ) → Modes b → m < binCount l → Modes (child e ps l b m)
+  child-small : (l : Level) (b : Branch) (m : ℕ) → SmallModes b → m < binCount l → SmallModes (child e ps l b m)
   unfolding child
-  child-modes hue b m h l = record { kind = h .kind; hue = l; saturation = h .saturation; intensity = h .intensity }
-  child-modes saturation b m h l = record { kind = h .kind; hue = h .hue; saturation = l; intensity = h .intensity }
-  child-modes intensity b m h l = record { kind = h .kind; hue = h .hue; saturation = h .saturation; intensity = l }
+  child-small hue b m h l = record { kind = h .kind; hue = l; saturation = h .saturation; intensity = h .intensity }
+  child-small saturation b m h l = record { kind = h .kind; hue = h .hue; saturation = l; intensity = h .intensity }
+  child-small intensity b m h l = record { kind = h .kind; hue = h .hue; saturation = h .saturation; intensity = l }
 
-  divided-modes : (ls : List Level) (b : Branch) → Modes b → Each Modes (divide e ps ls b)
+  divided-small : (ls : List Level) (b : Branch) → SmallModes b → Each SmallModes (divide e ps ls b)
   unfolding divide
-  divided-modes [] b h = (h, tt)
-  divided-modes (l ∷ ls) b h =
-      each-flat-map Modes (λ m. divide e ps ls (child e ps l b m)) (numbers 0 (modesFound e ps l b))
-      (each-number _ 0 (modesFound e ps l b) (λ m s k. divided-modes ls (child e ps l b m) (child-modes l b m h (omega (arith, found-few e ps l b, few-bins l)))))
+  divided-small [] b h = (h, tt)
+  divided-small (l ∷ ls) b h =
+      each-flat-map SmallModes (λ m. divide e ps ls (child e ps l b m)) (numbers 0 (modesFound e ps l b))
+      (each-number _ 0 (modesFound e ps l b) (λ m s k. divided-small ls (child e ps l b m) (child-small l b m h (omega (arith, found-few e ps l b, few-bins l)))))
 
-  some-modes : (ls : List Level) (b : Branch) → Modes b → Each Modes (divideSome e ps ls b)
+  some-divided-small : (ls : List Level) (b : Branch) → SmallModes b → Each SmallModes (divideSome e ps ls b)
   unfolding divideSome
-  some-modes ls b h = by-cond (Each Modes) (eqb (length (members ps b)) 0) [] (divide e ps ls b) (λ t. tt) (λ t. divided-modes ls b h)
+  some-divided-small ls b h = by-cond (Each SmallModes) (eqb (length (members ps b)) 0) [] (divide e ps ls b) (λ t. tt) (λ t. divided-small ls b h)
 
-  branches-modes : Each Modes (branches e ps)
+  branches-small : Each SmallModes (branches e ps)
   unfolding branches
-  branches-modes = each-append Modes (divideSome e ps greyLevels allGreys) (divideSome e ps colourLevels allColours)
-      (some-modes greyLevels allGreys (record { kind = omega arith; hue = omega arith; saturation = omega arith; intensity = omega arith }))
-      (some-modes colourLevels allColours (record { kind = omega arith; hue = omega arith; saturation = omega arith; intensity = omega arith }))
+  branches-small = each-append SmallModes (divideSome e ps greyLevels allGreys) (divideSome e ps colourLevels allColours)
+      (some-divided-small greyLevels allGreys (record { kind = omega arith; hue = omega arith; saturation = omega arith; intensity = omega arith }))
+      (some-divided-small colourLevels allColours (record { kind = omega arith; hue = omega arith; saturation = omega arith; intensity = omega arith }))
 
 -- ---- the entry of a branch
 members-bytes : (ps : List Pixel) (b : Branch) → Each Bytes ps → Each Bytes (members ps b)
 unfolding members
 members-bytes ps b h = each-filter Bytes (b .has) ps h
 
-entry-bounded : (ps : List Pixel) (b : Branch) → Each Bytes ps → Modes b → Bounded (length ps) (entryOf ps b)
+entry-bounded : (ps : List Pixel) (b : Branch) → Each Bytes ps → SmallModes b → Bounded (length ps) (entryOf ps b)
 unfolding entryOf members
 entry-bounded ps b h m =
     let own = members-bytes ps b h in
@@ -91,4 +90,4 @@ entry-bounded ps b h m =
 pub figures-bounded : FiguresBounded
 figures-bounded e ps bytes n l =
     let k : n < length (branches e ps) = omega (arith, entries-length e ps) in
-    rw (entry-at e ps n k) (entry-bounded ps (branchAt e ps n) (each-from Bytes ps _ bytes) (each-at Modes (branches e ps) allGreys (branches-modes e ps) n k))
+    rw (entry-at e ps n k) (entry-bounded ps (branchAt e ps n) (each-from Bytes ps _ bytes) (each-at SmallModes (branches e ps) allGreys (branches-small e ps) n k))

@@ -7,3 +7,4 @@ pub mod Long
 pub mod FieldRead
 mod LineRead
 pub mod SwatchRead
+pub mod CardRead

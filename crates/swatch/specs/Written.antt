@@ -1,4 +1,4 @@
--- Texts mean what they show: what is written in fields is read back. Each statement is proved in the file of its name under proofs/. Assumes nothing.
+-- Texts mean what they show: what is written in fields is read back. A statement is proved in the file of its name under proofs/. Assumes nothing.
 --   FieldRead                    a number in its columns
 --   writtenSwatch, SwatchRead    the text of a swatch; it is read back
 --   figuresIn, CardRead          all fields of a printed text, line by line; those of a card are its figures
@@ -12,12 +12,13 @@ use lib.ListN.{length, getD}
 use Rattle.lists.specs.Lists.{whole}
 use Rattle.pixel.specs.declared.Pixel.{Pixel}
 use Rattle.pixel.specs.Ranges.{Bytes}
+use Rattle.verdict.specs.Test.{Closeness, mostCloseness}
 use Rattle.palette.specs.declared.Entry.{Entry}
-use Rattle.palette.specs.Cards.{pixelsOf}
-use Rattle.palette.specs.Sound.{pixelAt}
+use Rattle.palette.specs.Cards.{entries, mostEntries, pixelsOf}
+use Rattle.palette.specs.Sound.{pixelAt, mostPixels}
 use Rattle.swatch.specs.Input.{lineFeed, linesOf, field, pieces, headerOf, bytesOf}
 use Rattle.swatch.specs.Reading.{mostSwatchPixels, swatchNumber}
-use Rattle.swatch.specs.Output.{printedIn, lineIn, entryFigures}
+use Rattle.swatch.specs.Output.{printedIn, lineIn, printedLine, entryFigures, printedCard}
 
 -- a number that fits its columns is what its field says (X2). In 6 columns: every number below a million
 abbrev pub FieldRead : Type 0
@@ -60,3 +61,21 @@ figuresIn text = whole (map (λ line. fieldsIn 6 (length line / 6) line) (linesO
 -- the figures of a card, line by line (X5)
 abbrev pub cardFigures : ℕ → ℕ → List Entry → List (List ℕ)
 cardFigures pixels closeness es = (length es ∷ pixels ∷ closeness ∷ []) ∷ map entryFigures es
+
+-- every figure fits 6 columns
+abbrev pub SmallFigures : List (List ℕ) → Type 0
+SmallFigures rows = (i j : ℕ) → i < length rows → j < length (getD rows i []) → getD (getD rows i []) j 0 < 10 ^ 6
+
+-- lines of such figures, as they are printed, are read back: a card, and the number of a ground (X5, X7). Proved in proofs/CardRead
+abbrev pub LinesRead : Type 0
+LinesRead = (rows : List (List ℕ)) → SmallFigures rows → figuresIn (flatMap printedLine rows) ≡ some rows
+
+-- what is printed for the card of these pixels
+pub record CardReadBack (e : Closeness) (ps : List Pixel) : Type 0 where
+  pub small : SmallFigures (cardFigures (length ps) e (entries e ps))
+  pub figures : figuresIn (printedCard (length ps) e (entries e ps)) ≡ some (cardFigures (length ps) e (entries e ps))
+
+-- every card that is served shows its figures (X5; the limits of G5, G8 and G11)
+abbrev pub CardRead : Type 0
+CardRead = (e : Closeness) (ps : List Pixel) → ((i : ℕ) → i < length ps → Bytes (pixelAt ps i))
+    → e ≤ mostCloseness → length ps ≤ mostPixels → length (entries e ps) ≤ mostEntries → CardReadBack e ps
