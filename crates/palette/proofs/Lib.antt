@@ -8,3 +8,4 @@ pub mod OneEntry
 pub mod Always
 pub mod Shuffles
 pub mod FewModes
+pub mod Bounds

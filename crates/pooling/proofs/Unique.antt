@@ -1,4 +1,4 @@
--- One denominator always exists; the best sequence is one, and so are its blocks. Assumes nothing.
+-- Two sequences always have a common denominator; the best sequence is one, and so are its blocks. Assumes nothing.
 use mathlib.Core.Path.{_≡_, refl, sym, _∙_, ap, subst}
 use mathlib.Core.List.{List, [], _∷_, _++_}
 use Prim.Native.Nat.{ℕ, zero, suc, _*_, _%_, _<_}
@@ -9,7 +9,7 @@ use lib.ListN.{length, replicate}
 use Rattle.pooling.specs.Blocks.{Block, Direction, increasing, Strict, StrictFrom}
 use Rattle.pooling.proofs.Leading.{Full, blocksFromLast, strict-tail, block-eq}
 use Rattle.pooling.specs.Fraction.{Fraction, _≈_, Proper, CommonDenominator, error}
-use Rattle.pooling.specs.Best.{mean, at, Best}
+use Rattle.pooling.specs.Best.{mean, at, Best, DenominatorExists}
 use Rattle.pooling.proofs.Heavy.{Rises, forms-cut, last-rises}
 use Rattle.pooling.proofs.Cuts.{cut-full}
 use Rattle.pooling.proofs.Fit.{fit, rises-best}
@@ -19,11 +19,11 @@ abbrev pub product : List Fraction → ℕ
 product [] = 1
 product (y ∷ ys) = y .den * product ys
 
-pub product-pos : (ys : List Fraction) → Proper ys → 0 < product ys
+product-pos : (ys : List Fraction) → Proper ys → 0 < product ys
 product-pos [] p = omega arith
 product-pos (y ∷ ys) p = omega (arith, mul-lt-mul-of-pos-right {k = product ys} (p .0) (product-pos ys (p .1)))
 
-pub multiple-of : (ys : List Fraction) → Proper ys → (c D : ℕ) → c * product ys ≡ D → CommonDenominator D ys
+multiple-of : (ys : List Fraction) → Proper ys → (c D : ℕ) → c * product ys ≡ D → CommonDenominator D ys
 multiple-of [] p c D e = tt
 multiple-of (y ∷ ys) p c D e = (
   subst (λ (z : ℕ). z % y .den ≡ 0) (shape (y .den) (product ys) c D e) (mul-mod-left (c * product ys) (y .den)),
@@ -36,12 +36,14 @@ multiple-of (y ∷ ys) p c D e = (
     shape′ : (b P c D : ℕ) → c * (b * P) ≡ D → c * b * P ≡ D
     shape′ b P c D e = omega arith
 
-pub shared : (f y : List Fraction) → Proper f → Proper y → (0 < product f * product y) × CommonDenominator (product f * product y) f × CommonDenominator (product f * product y) y
-shared f y pf py = (
-  omega (arith, mul-lt-mul-of-pos-right {k = product y} (product-pos f pf) (product-pos y py)),
-  multiple-of f pf (product y) (product f * product y) (omega arith),
-  multiple-of y py (product f) (product f * product y) refl,
-)
+-- so the product of the two products will do for both
+pub denominator-exists : DenominatorExists
+denominator-exists f y pf py = record {
+  denominator = product f * product y;
+  positive = omega (arith, mul-lt-mul-of-pos-right {k = product y} (product-pos f pf) (product-pos y py));
+  left = multiple-of f pf (product y) (product f * product y) (omega arith);
+  right = multiple-of y py (product f) (product f * product y) refl;
+}
 
 -- ---- the best sequence is one
 pub values-unique : (w : Direction) (h : List ℕ) (f g : List Fraction) → Best w h f → Best w h g → (i : ℕ) → i < length h → at f i ≈ at g i
@@ -50,9 +52,10 @@ values-unique d h f g p q i hi = go (ℤ-discrete _ _)
     go : Dec (at f i ≈ at g i) → at f i ≈ at g i
     go (yes e) = e
     go (no n) =
-        let w = shared f g (p .positive) (q .positive) in
-        let a : error (product f * product g) h f < error (product f * product g) h g = p .leastError g (q .sameLength) (q .positive) (q .monotone) i hi n (product f * product g) (w .0) (w .1) (w .2) in
-        let b : error (product f * product g) h g < error (product f * product g) h f = q .leastError f (p .sameLength) (p .positive) (p .monotone) i hi (λ e. n (sym e)) (product f * product g) (w .0) (w .2) (w .1) in
+        let c = denominator-exists f g (p .positive) (q .positive) in
+        let D = c .denominator in
+        let a : error D h f < error D h g = p .leastError g (q .sameLength) (q .positive) (q .monotone) i hi n D (c .positive) (c .left) (c .right) in
+        let b : error D h g < error D h f = q .leastError f (p .sameLength) (p .positive) (p .monotone) i hi (λ e. n (sym e)) D (c .positive) (c .right) (c .left) in
         absurd (omega arith)
 
 -- ---- equal values, equal blocks

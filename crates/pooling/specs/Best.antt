@@ -29,9 +29,16 @@ pub record Best (w : Direction) (h : List ℕ) (f : List Fraction) : Type 0 wher
       → (i : ℕ) → i < length h → ¬ (at f i ≈ at y i)
       → (D : ℕ) → 0 < D → CommonDenominator D f → CommonDenominator D y → error D h f < error D h y
 
--- P6: a common denominator always exists; proved in proofs/Always
+-- P6: a denominator common to two sequences, by which their errors can be compared
+pub record Comparable (f y : List Fraction) : Type 0 where
+  pub denominator : ℕ
+  pub positive : 0 < denominator
+  pub left : CommonDenominator denominator f
+  pub right : CommonDenominator denominator y
+
+-- P6: any two sequences have one; proved in proofs/Always
 abbrev pub DenominatorExists : Type 0
-DenominatorExists = (ys : List Fraction) → Proper ys → (D : ℕ) × (0 < D) × CommonDenominator D ys
+DenominatorExists = (f y : List Fraction) → Proper f → Proper y → Comparable f y
 
 -- P1: the bins cut into parts that are not empty, each with its sum and length
 pub data CutInto : List ℕ → List Block → Type 0 where
@@ -43,6 +50,8 @@ pub record Pooled (w : Direction) (h : List ℕ) : Type 0 where
   pub cut : CutInto h (blocks w h)
   pub strict : Strict w (blocks w h)
   pub best : Best w h (means (blocks w h))
+  -- so the comparison in `best` is never empty
+  pub comparable : (y : List Fraction) → Proper y → Comparable (means (blocks w h)) y
 
 -- proved in proofs/Always, as are the two below
 abbrev pub AlwaysPooled : Type 0

@@ -10,11 +10,11 @@ use Rattle.palette.specs.Levels.{histogram}
 use Rattle.palette.specs.Cards.{members, histogramIn, meanOf, entryOf, modesFound, inChild, child, divide, divideSome, branches, entries, mostEntries, pixelsOf}
 use Rattle.swatch.specs.Input.{linesOf, afterSpaces, decimal, numeral, field, pieces, fieldsOf, headerOf, sizeOf, pixelLine, pixelBytes, bytesOf}
 use Rattle.swatch.specs.Reading.{mostSwatchPixels}
-use Rattle.swatch.specs.Output.{printedField, printedLine, printedEntry, printedCard}
+use Rattle.swatch.specs.Output.{printedIn, lineIn, printedEntry, printedCard}
 use Rattle.kistrovu.specs.Grounds.{firstGround, programCloseness, textNumber}
 use Rattle.kistrovu.specs.Answers.{printed}
 use Rattle.samples.specs.Printed.{PrintsItsCard}
 
 pub prints-its-card : PrintsItsCard
-unfolding flatMap part numbers filter countIf all firstThat firstIndex largestThat firstLowest largest whole intensityBin chromaSquared saturationOf saturationBin isGrey tangents huePoint quarter turnedBack turnedOf tangentsPassed hueOf hueBin risesAbove isValley firstSeparators firstHighest segmentsFrom firstSegments inMode nextJoin joinAll lineModes opening opened linePlace ringModes inRingMode histogram members histogramIn meanOf entryOf modesFound inChild child divide divideSome branches entries mostEntries pixelsOf linesOf afterSpaces decimal numeral field pieces fieldsOf headerOf sizeOf pixelLine pixelBytes bytesOf mostSwatchPixels printedField printedLine printedEntry printedCard firstGround programCloseness textNumber printed
+unfolding flatMap part numbers filter countIf all firstThat firstIndex largestThat firstLowest largest whole intensityBin chromaSquared saturationOf saturationBin isGrey tangents huePoint quarter turnedBack turnedOf tangentsPassed hueOf hueBin risesAbove isValley firstSeparators firstHighest segmentsFrom firstSegments inMode nextJoin joinAll lineModes opening opened linePlace ringModes inRingMode histogram members histogramIn meanOf entryOf modesFound inChild child divide divideSome branches entries mostEntries pixelsOf linesOf afterSpaces decimal numeral field pieces fieldsOf headerOf sizeOf pixelLine pixelBytes bytesOf mostSwatchPixels printedIn lineIn printedEntry printedCard firstGround programCloseness textNumber printed
 prints-its-card = refl

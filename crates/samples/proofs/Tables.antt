@@ -13,8 +13,8 @@ use Rattle.samples.specs.Guards.{GuardsHold}
 
 pub starred-hold : StarredHold
 unfolding part numbers filter countIf firstThat largestThat firstLowest largest intensityBin chromaSquared saturationOf saturationBin isGrey tangents huePoint quarter turnedBack turnedOf tangentsPassed hueOf hueBin measuresOf roundCount unitsPerBit floorLog rounds lg push pushAll blocks fitted placesFrom placeOf massWithin massAcross fittedMass weight partWeight bar largestWeight cost risesAbove isValley firstSeparators firstHighest segmentsFrom firstSegments riseOf fallOf joined join riseCost fallCost joinOf cheapest nextJoin joinAll lineModes lineSeparators
-starred-hold = (refl, (refl, (refl, (refl, (refl, (refl, (refl, (refl, (refl, (refl, (refl, (refl, (refl, (refl, (refl, tt)))))))))))))))
+starred-hold = refl
 
 pub guards-hold : GuardsHold
 unfolding part numbers filter countIf firstThat largestThat firstLowest largest intensityBin chromaSquared saturationOf saturationBin isGrey tangents huePoint quarter turnedBack turnedOf tangentsPassed hueOf hueBin measuresOf roundCount unitsPerBit floorLog rounds lg push pushAll blocks fitted placesFrom placeOf massWithin massAcross fittedMass weight partWeight bar largestWeight cost rejected verdictOf risesAbove isValley firstSeparators firstHighest segmentsFrom firstSegments riseOf fallOf joined join riseCost fallCost joinOf cheapest nextJoin joinAll lineModes lineSeparators inMode opening opened ringBin linePlace ringModes ringSeparators inRingMode
-guards-hold = (refl, (refl, (refl, (refl, (refl, (refl, (refl, (refl, (refl, (refl, (refl, (refl, (refl, (refl, (refl, (refl, (refl, (refl, (refl, (refl, (refl, (refl, (refl, (refl, (refl, (refl, (refl, (refl, (refl, (refl, (refl, (refl, (refl, (refl, ((refl, refl), ((refl, refl), tt))))))))))))))))))))))))))))))))))))
+guards-hold = refl

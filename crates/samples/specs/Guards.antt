@@ -1,4 +1,4 @@
--- Rows that plausible wrong readings of document 01 get wrong; each comment says what its rows hold fast. proofs/Tables has one proof of them all. Assumes nothing.
+-- Rows that plausible misreadings of the rules get wrong; each comment says what its rows hold fast. proofs/Tables has one proof of them all. Assumes nothing.
 use mathlib.Core.Bool.{true, false}
 use mathlib.Core.List.{List, [], _∷_}
 use lib.IntN.{pos, negsuc}

@@ -2,7 +2,7 @@
 use Prim.Native.Nat.{ℕ}
 use mathlib.Core.Path.{_≡_}
 use mathlib.Core.Bool.{Bool}
-use mathlib.Core.List.{List, [], _∷_, map}
+use mathlib.Core.List.{List, map}
 use lib.IntN.{ℤ}
 use lib.ListN.{length}
 use Rattle.lists.specs.Lists.{numbers, firstThat, maybe}
@@ -13,6 +13,7 @@ use Rattle.logarithm.specs.Log.{lg}
 use Rattle.pooling.specs.declared.Block.{Block}
 use Rattle.pooling.specs.Blocks.{Direction, blocks, fitted}
 use Rattle.verdict.specs.declared.Mass.{Mass}
+use Rattle.verdict.specs.declared.Verdict.{Verdict}
 use Rattle.verdict.specs.Test.{Closeness, verdictOf, fittedMass}
 use Rattle.segmentation.specs.Segments.{Segment, inMode}
 use Rattle.segmentation.specs.Joining.{lineModes, lineSeparators}
@@ -49,18 +50,47 @@ mode s p e = record { start = s; peak = p; end = e }
 abbrev pub firstMode : Closeness → List ℕ → ℕ → ℕ → ℕ
 firstMode e h n b = maybe n (λ (m : ℕ). m) (firstThat (λ m. inRingMode e h m b) (numbers 0 n))
 
-abbrev pub Holds : Sample → Type 0
-Holds (chroma r g b q) = chromaSquared (rgb r g b) ≡ q
-Holds (measures r g b i s h is) = measuresOf (rgb r g b) ≡ record { intensity = i; saturation = s; hue = h; grey = is }
-Holds (logarithm x units) = lg x ≡ units
-Holds (fit w h bs) = fitted w h ≡ bs
-Holds (mass w h i j a b) = fittedMass h (blocks w h) i j ≡ record { num = a; den = b }
-Holds (verdict e w h c is) = verdictOf e w h ≡ record { cost = c; rejected = is }
-Holds (line e h separators) = lineSeparators e h ≡ separators
-Holds (modes e h ss) = lineModes e h ≡ ss
-Holds (inLine e h m b is) = inMode (lineModes e h) m b ≡ is
-Holds (ring e h separators ms) = (ringSeparators e h ≡ separators) × (map (λ b. firstMode e h (length separators) b) (numbers 0 (length h)) ≡ ms)
+-- what a row is about
+pub data Result : Type 0 where
+  number : ℕ → Result
+  truth : Bool → Result
+  places : List ℕ → Result
+  measured : Measures → Result
+  fractions : List Block → Result
+  fraction : Mass → Result
+  judged : Verdict → Result
+  segments : List Segment → Result
+  -- the separators of a ring, and each bin's mode
+  round : List ℕ → List ℕ → Result
 
+-- what the definitions make of a row
+abbrev pub computed : Sample → Result
+computed (chroma r g b q) = number (chromaSquared (rgb r g b))
+computed (measures r g b i s h is) = measured (measuresOf (rgb r g b))
+computed (logarithm x units) = number (lg x)
+computed (fit w h bs) = fractions (fitted w h)
+computed (mass w h i j a b) = fraction (fittedMass h (blocks w h) i j)
+computed (verdict e w h c is) = judged (verdictOf e w h)
+computed (line e h separators) = places (lineSeparators e h)
+computed (modes e h ss) = segments (lineModes e h)
+computed (inLine e h m b is) = truth (inMode (lineModes e h) m b)
+computed (ring e h separators ms) =
+    let found = ringSeparators e h in
+    round found (map (λ b. firstMode e h (length found) b) (numbers 0 (length h)))
+
+-- what the row says
+abbrev pub stated : Sample → Result
+stated (chroma r g b q) = number q
+stated (measures r g b i s h is) = measured (record { intensity = i; saturation = s; hue = h; grey = is })
+stated (logarithm x units) = number units
+stated (fit w h bs) = fractions bs
+stated (mass w h i j a b) = fraction (record { num = a; den = b })
+stated (verdict e w h c is) = judged (record { cost = c; rejected = is })
+stated (line e h separators) = places separators
+stated (modes e h ss) = segments ss
+stated (inLine e h m b is) = truth is
+stated (ring e h separators ms) = round separators ms
+
+-- every row of a table holds
 abbrev pub AllHold : List Sample → Type 0
-AllHold [] = Unit {0}
-AllHold (s ∷ ss) = Holds s × AllHold ss
+AllHold table = map computed table ≡ map stated table

@@ -1,4 +1,4 @@
--- Document 01, 'Samples': the table of those with *. proofs/Tables has one proof of all its rows. Assumes nothing.
+-- The samples that every engine is to give, as one table. proofs/Tables has one proof of all its rows. Assumes nothing.
 use mathlib.Core.Bool.{true, false}
 use mathlib.Core.List.{List, [], _∷_}
 use Rattle.pooling.specs.Blocks.{increasing}
@@ -6,21 +6,21 @@ use Rattle.samples.specs.Rows.{Sample, chroma, measures, fit, line, bloc
 
 abbrev pub starred : List Sample
 starred =
-    -- 'Q: (13,9,0) gives 133, grey; (13,10,0) gives 139, coloured'
+    -- M2, M4: on either side of the grey threshold
     chroma 13 9 0 133
     ∷ measures 13 9 0 1 1 0 true
     ∷ chroma 13 10 0 139
     ∷ measures 13 10 0 1 1 52 false
-    -- 'Hue: green 5, blue 25, red 45 at full 255; (100,0,200) 30; (100,200,0) 0'
+    -- M8: pure green, blue and red; the half turn; hue 0
     ∷ measures 0 255 0 17 41 5 false
     ∷ measures 0 0 255 17 41 25 false
     ∷ measures 255 0 0 17 41 45 false
     ∷ measures 100 0 200 20 28 30 false
     ∷ measures 100 200 0 20 28 0 false
-    -- '3,1,2 increasing pools to one block of 2; 1,3,2 to 1, 5/2, 5/2'
+    -- P2: all in one block; a block of its own and one of two bins
     ∷ fit increasing (3 ∷ 1 ∷ 2 ∷ []) (block 6 3 ∷ block 6 3 ∷ block 6 3 ∷ [])
     ∷ fit increasing (1 ∷ 3 ∷ 2 ∷ []) (block 1 1 ∷ block 5 2 ∷ block 5 2 ∷ [])
-    -- '0,1,0,1,0 at e 0: separators 0, 4. 0,20,0,20,0: 0, 2, 4; at e 13 the same, at e 14: 0, 4'
+    -- S7: too few counts to keep two modes apart; enough of them up to closeness 13, and not at 14
     ∷ line 0 (0 ∷ 1 ∷ 0 ∷ 1 ∷ 0 ∷ []) (0 ∷ 4 ∷ [])
     ∷ line 0 (0 ∷ 20 ∷ 0 ∷ 20 ∷ 0 ∷ []) (0 ∷ 2 ∷ 4 ∷ [])
     ∷ line 13 (0 ∷ 20 ∷ 0 ∷ 20 ∷ 0 ∷ []) (0 ∷ 2 ∷ 4 ∷ [])

@@ -4,3 +4,7 @@ pub mod Lines
 pub mod Rows
 pub mod Numbers
 pub mod Long
+pub mod FieldRead
+mod LineRead
+pub mod SwatchRead
+pub mod CardRead

@@ -1,25 +1,37 @@
 -- Printing a card: rule X5. Assumes nothing.
-use Prim.Native.Nat.{ℕ, _+_, _*_, _/_, _%_, _^_, _≤_}
+use Prim.Native.Nat.{ℕ, zero, suc, _+_, _*_, _/_, _%_, _^_, _≤_}
 use mathlib.Core.Path.{_≡_}
 use mathlib.Core.Bool.{cond, _&&_}
-use mathlib.Core.List.{List, [], _∷_, _++_, map, flatMap}
+use mathlib.Core.List.{List, [], _∷_, _++_, flatMap}
 use lib.Dec.{ltb}
 use lib.ListN.{length}
 use Rattle.palette.specs.declared.Entry.{Entry}
 use Rattle.palette.specs.Cards.{mostEntries}
 use Rattle.swatch.specs.Input.{lineFeed, space, digitZero}
 
--- X2: a number below a million in 6 columns: the digit of 10^j, or a space in front of the first digit
-unfoldable pub printedField : ℕ → List ℕ
-printedField v = map (λ j. cond (ltb 0 j && ltb v (10 ^ j)) space (digitZero + v / 10 ^ j % 10)) (5 ∷ 4 ∷ 3 ∷ 2 ∷ 1 ∷ 0 ∷ [])
+-- X2: a number in so many columns, which it fits: in each the digit of a power of ten, or a space in front of the first digit
+unfoldable pub printedIn : ℕ → ℕ → List ℕ
+printedIn zero v = []
+printedIn (suc j) v = cond (ltb 0 j && ltb v (10 ^ j)) space (digitZero + v / 10 ^ j % 10) ∷ printedIn j v
 
--- X5: a line of fields
-unfoldable pub printedLine : List ℕ → List ℕ
-printedLine vs = flatMap printedField vs ++ lineFeed ∷ []
+-- X1: a line of fields of w columns each
+unfoldable pub lineIn : ℕ → List ℕ → List ℕ
+lineIn w vs = flatMap (printedIn w) vs ++ lineFeed ∷ []
 
--- X5: the line of an entry
+-- X5: a number below a million in 6 columns
+abbrev pub printedField : ℕ → List ℕ
+printedField = printedIn 6
+
+-- X5: a line of such fields
+abbrev pub printedLine : List ℕ → List ℕ
+printedLine = lineIn 6
+
+-- X5: the figures of an entry, in the order of its line
+abbrev pub entryFigures : Entry → List ℕ
+entryFigures t = t .kind ∷ t .hue ∷ t .saturation ∷ t .intensity ∷ t .red ∷ t .green ∷ t .blue ∷ t .count ∷ []
+
 unfoldable pub printedEntry : Entry → List ℕ
-printedEntry t = printedLine (t .kind ∷ t .hue ∷ t .saturation ∷ t .intensity ∷ t .red ∷ t .green ∷ t .blue ∷ t .count ∷ [])
+printedEntry t = printedLine (entryFigures t)
 
 -- X5: the line of entries, pixels and closeness, then the entries
 unfoldable pub printedCard : ℕ → ℕ → List Entry → List ℕ

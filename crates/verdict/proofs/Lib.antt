@@ -9,3 +9,4 @@ mod Caps
 pub mod Monotone
 pub mod Band
 pub mod Sound
+pub mod Difference

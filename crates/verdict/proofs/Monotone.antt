@@ -4,14 +4,14 @@ use mathlib.Core.Path.{_≡_, refl, sym, ap, _∙_, subst}
 use mathlib.Core.List.{List, [], _∷_, map}
 use native.Mathlib.Omega.{arith}
 use native.Mathlib.Numerals.{add-one}
-use native.Mathlib.Nat.{div-one, mod-one, eq-of-mul-eq-mul-right}
+use native.Mathlib.Nat.{div-one, eq-of-mul-eq-mul-right}
 use lib.Dec.{le→leb}
 use lib.IntN.{ℤ, pos, negℤ, natAbs, _-ℤ_, ℤ-discrete, +ℤ-idl, +ℤ-invr}
 use lib.ListN.{length, take, getD, length-map, List·getD-map}
 use Rattle.lists.specs.Lists.{total, part}
 use Rattle.lists.proofs.Sums.{total-part, total-part-le, total-more}
 use Rattle.pooling.specs.Blocks.{Direction, increasing, decreasing, blocks, spread}
-use Rattle.pooling.specs.Fraction.{Fraction, _≈_, Proper, Ordered, OrderedFrom, Follows, CommonDenominator, sq, error}
+use Rattle.pooling.specs.Fraction.{Fraction, _≈_, Proper, Ordered, OrderedFrom, Follows, sq, error}
 use Rattle.pooling.specs.Best.{mean, means, at}
 use Rattle.pooling.proofs.Gap.{levels, Splits}
 use Rattle.pooling.proofs.FittedLevels.{upTo, up-to-more, begins-splits}
@@ -31,10 +31,6 @@ counts h = map (λ x. record { num = pos x; den = 1 }) h
 counts-proper : (h : List ℕ) → Proper (counts h)
 counts-proper [] = tt
 counts-proper (x ∷ h) = (omega arith, counts-proper h)
-
-counts-denominator : (D : ℕ) (h : List ℕ) → CommonDenominator D (counts h)
-counts-denominator D [] = tt
-counts-denominator D (x ∷ h) = (mod-one D, counts-denominator D h)
 
 counts-follow : (w : Direction) (a b : ℕ) → InOrder w a b → Follows w (record { num = pos a; den = 1 }) (record { num = pos b; den = 1 })
 counts-follow increasing a b o = record { le = le→leb (a * 1) (b * 1) (omega arith) }
@@ -65,11 +61,12 @@ mean-count w h m i l = go (ℤ-discrete _ _)
     go (yes e) = e
     go (no n) =
         let best = fit-best w h in
-        let one = denominator-exists (means (blocks w h)) (best .positive) in
+        let c = denominator-exists (means (blocks w h)) (counts h) (best .positive) (counts-proper h) in
+        let D = c .denominator in
         absurd (omega (
           arith,
-          best .leastError (counts h) (length-map h _) (counts-proper h) (counts-ordered w h m) i l n (one .0) (one .1) (one .2) (counts-denominator (one .0) h),
-          counts-exact (one .0) h,
+          best .leastError (counts h) (length-map h _) (counts-proper h) (counts-ordered w h m) i l n D (c .positive) (c .left) (c .right),
+          counts-exact D h,
         ))
 
 -- the sum of a block is its length times the count of each of its bins

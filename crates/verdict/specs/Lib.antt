@@ -1,3 +1,4 @@
 pub mod Test
 pub mod Exactness
 pub mod Scratch
+pub mod Difference

@@ -5,7 +5,7 @@ use native.Mathlib.Omega.{arith}
 use borrow.Author.Needs.{needs}
 use lib.ListN.{length-set}
 use Rattle.lists.proofs.Pieces.{write-sets}
-use Rattle.swatch.specs.Output.{printedField}
+use Rattle.swatch.specs.Output.{printedIn, printedField}
 use Rattle.swatch.proofs.printing.put_field.Statement.{statement}
 use Rattle.swatch.proofs.printing.put_field.Tie as tie
 
@@ -64,7 +64,7 @@ same-length : tie.Need-same-length
 same-length c = search needs
 
 returns : tie.Need-returns
-unfolding printedField
+unfolding printedIn
 returns c =
     let fifth = c .before in
     let fourth = fifth .before in

@@ -8,7 +8,7 @@ use lib.ListN.{length, take}
 use lib.Seq.{take-all}
 use Rattle.lists.specs.Lists.{over}
 use Rattle.lists.proofs.Pieces.{write-none, write-store, write-piece}
-use Rattle.swatch.specs.Output.{printedField, printedLine}
+use Rattle.swatch.specs.Output.{printedField, lineIn}
 use Rattle.swatch.proofs.PrintedLengths.{field-length, fields-length, line-length}
 use Rattle.swatch.proofs.printing.put_line.Statement.{statement}
 use Rattle.swatch.proofs.printing.put_line.Tie as tie
@@ -52,7 +52,7 @@ loop-again c =
       omega arith,
       omega (arith, l .inv .1),
       omega (arith, f .kept, l .inv .2),
-      write-piece printedField 6 field-length (s .args .values .now) 0 (s .args .at) (s .args .out .now) (l .i) (l .place) (omega arith) (omega (arith, s .pre)) (l .inv .1) (l .inv .3) (f .ensures),
+      write-piece printedField 6 (field-length 6) (s .args .values .now) 0 (s .args .at) (s .args .out .now) (l .i) (l .place) (omega arith) (omega (arith, s .pre)) (l .inv .1) (l .inv .3) (f .ensures),
     )
 
 slice-write-out : tie.Need-slice-write-out Inv-loop μ-loop
@@ -65,14 +65,14 @@ same-length : tie.Need-same-length Inv-loop μ-loop
 same-length c = search needs
 
 returns : tie.Need-returns Inv-loop μ-loop
-unfolding printedLine
+unfolding lineIn
 returns c =
     let l = c .before .loop in
     let s = c .before .before .before .before in
     let values = s .args .values .now in
     let all = take-all (l .i) values (omega arith) in
-    let place : l .place ≡ s .args .at + length (flatMap printedField values) = omega (arith, l .inv, fields-length values) in (
-      rw (l .inv .3, all, place) (write-store (s .args .at) (s .args .out .now) (flatMap printedField values) 10 (omega (arith, s .pre, fields-length values))),
+    let place : l .place ≡ s .args .at + length (flatMap printedField values) = omega (arith, l .inv, fields-length 6 values) in (
+      rw (l .inv .3, all, place) (write-store (s .args .at) (s .args .out .now) (flatMap printedField values) 10 (omega (arith, s .pre, fields-length 6 values))),
       omega (arith, l .inv, line-length values),
     )
 
