@@ -27,6 +27,7 @@ ghost use Rattle.kistrovu.specs.Answers.{
   cardAnswer,
   labelList,
   printedAnswer,
+  groundAnswer,
 };
 ghost use Rattle.kistrovu.specs.Facts.{IfServed, RingList};
 
@@ -73,18 +74,12 @@ pub struct Card {
     pub entries: [Entry; MOST_ENTRIES],
 }
 
-// What the card program prints: the first len of bytes; the rest are zero.
+// A text to print: the first len of bytes; the rest are zero.
 #[repr(C)]
 pub struct Printed {
     pub number: u32,
     pub len: u32,
     pub bytes: [u8; PRINTED_MOST],
-}
-
-// The number of a text, and how many bytes are printed for it.
-pub struct Said {
-    pub number: u32,
-    pub len: u32,
 }
 
 // Which version the library is. No ground concerns it.
@@ -228,17 +223,32 @@ pub extern "C" fn kistrovu_card(pixels: &[u8], closeness: u32, labels: &mut [u8]
     }
 }
 
-// What the card program prints for the text of a swatch. Grounds 1, 2, 3, 11.
+// The text of the card of a swatch that is given as text. Grounds 1, 2, 3, 11.
 #[no_mangle]
 pub extern "C" fn kistrovu_print_card(text: &[u8]) -> Printed
     ensures { λ r. ⌜ (r ≡ printedAnswer (now (text .entry)))
         × IfServed (r .number) (SoundCard programCloseness (pixelsOf (bytesOf (now (text .entry))))) ⌝ }
 {
     let mut bytes = [0u8; PRINTED_MOST];
-    let said = printing::print(text, &mut bytes);
+    let outcome = printing::print(text, &mut bytes);
     Printed {
-        number: said.number,
-        len: said.len,
+        number: outcome.number,
+        len: outcome.len,
+        bytes,
+    }
+}
+
+// The line that the card program prints for a swatch that is turned down: the number of the ground. It takes any number, and prints
+// the last six digits of a longer one. No ground concerns it.
+#[no_mangle]
+pub extern "C" fn kistrovu_print_ground(number: u32) -> Printed
+    ensures { λ r. ⌜ r ≡ groundAnswer number ⌝ }
+{
+    let mut bytes = [0u8; PRINTED_MOST];
+    let len = swatch::print_number(number, &mut bytes);
+    Printed {
+        number: 0,
+        len: len as u32,
         bytes,
     }
 }
