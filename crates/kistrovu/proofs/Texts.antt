@@ -5,17 +5,15 @@ use mathlib.Core.Bool.{Bool, true, false, cond}
 use mathlib.Core.List.{List, []}
 use lib.Dec.{eqb, ltb, eqb·suc-zero}
 use lib.ListN.{length, take}
-use lib.Seq.{take-append-seam}
 use native.Mathlib.Omega.{arith}
 use borrow.Author.Tests.{ltb-false, eqb-true, ne-eqb, le-leb}
 use Rattle.pixel.specs.declared.Pixel.{Pixel}
 use Rattle.verdict.specs.Test.{Closeness}
-use Rattle.lists.specs.Lists.{missing, padded, over}
+use Rattle.lists.specs.Lists.{missing, over}
 use Rattle.lists.proofs.Cases.{by-cond}
-use Rattle.palette.specs.declared.Entry.{Entry}
 use Rattle.making.specs.declared.CardEntries.{CardEntries}
 use Rattle.making.specs.Making.{cardEntries}
-use Rattle.palette.specs.Cards.{pixelsOf, entries, mostEntries, noEntry}
+use Rattle.palette.specs.Cards.{pixelsOf, entries, mostEntries}
 use Rattle.swatch.specs.Input.{headerOf, sizeOf, pixelBytes, bytesOf}
 use Rattle.swatch.specs.declared.Reading.{Reading}
 use Rattle.swatch.specs.Reading.{mostSwatchPixels, badSize, swatchNumber, readingOf, longestSwatch}
@@ -28,6 +26,7 @@ use Rattle.kistrovu.specs.Answers.{printed, printedBytes, printedAnswer}
 use Rattle.kistrovu.specs.Facts.{LongText, PrintedFits}
 use Rattle.kistrovu.specs.Texts.{PixelsPrinted, TextPrinted}
 use Rattle.kistrovu.proofs.Served.{neither}
+use Rattle.kistrovu.proofs.Cards.{take-padded}
 
 -- ---- the number of a text
 many : List ℕ → Bool
@@ -80,10 +79,6 @@ module _ (text before after : List ℕ) (r : Outcome) where
           )
 
 -- ---- the entries of a card, out of its places
-take-padded : (n : ℕ) (es : List Entry) → take (length es) (padded n noEntry es) ≡ es
-unfolding padded
-take-padded n es = take-append-seam es _
-
 pub entries-held : (e : Closeness) (ps : List Pixel) (m : CardEntries) → m ≡ cardEntries e ps → m .total ≤ mostEntries → take (m .total) (m .entries) ≡ entries e ps
 unfolding cardEntries
 entries-held e ps m is few =

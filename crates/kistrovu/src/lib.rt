@@ -29,7 +29,7 @@ ghost use Rattle.kistrovu.specs.Answers.{
   printedAnswer,
   groundAnswer,
 };
-ghost use Rattle.kistrovu.specs.Facts.{IfServed, RingList};
+ghost use Rattle.kistrovu.specs.Facts.{IfServed, RingList, CardSound};
 
 mod grounds;
 mod printing;
@@ -176,7 +176,7 @@ pub extern "C" fn kistrovu_ring_modes(
     separators: &mut [u32],
 ) -> ModesAnswer
     ensures { λ r. ⌜ (r ≡ ringAnswer closeness (now (histogram .entry)) (length (now (separators .entry))))
-        × RingList closeness (now (histogram .entry)) (now (separators .entry)) (now (separators .exit))
+        × RingList closeness (now (histogram .entry)) (now (separators .entry)) (now (separators .exit)) r
         × IfServed (r .number) (RingFinished closeness (now (histogram .entry))) ⌝ }
 {
     let number = grounds::modes_number(histogram, closeness, separators.len());
@@ -197,7 +197,7 @@ pub extern "C" fn kistrovu_ring_modes(
 pub extern "C" fn kistrovu_card(pixels: &[u8], closeness: u32, labels: &mut [u8]) -> Card
     ensures { λ r. ⌜ (r ≡ cardAnswer closeness (now (pixels .entry)) (length (now (labels .entry))))
         × (now (labels .exit) ≡ labelList closeness (now (pixels .entry)) (now (labels .entry)))
-        × IfServed (r .number) (SoundCard closeness (pixelsOf (now (pixels .entry)))) ⌝ }
+        × IfServed (r .number) (CardSound closeness (now (pixels .entry)) r (now (labels .exit))) ⌝ }
 {
     let number = grounds::card_asked(pixels, closeness, labels.len());
     if number != 0 {

@@ -1,6 +1,5 @@
 -- `read_some` meets its contract and ends: the retries left fall. Assumes nothing.
 use mathlib.Core.Path.{_≡_}
-use native.Mathlib.Omega.{arith}
 use borrow.Author.Needs.{needs}
 use lib.ListN.{length}
 use Rattle.card.proofs.read_some.Statement.{statement}

@@ -1,9 +1,7 @@
 -- `kistrovu_print_ground` keeps its promise. Assumes nothing.
-use Prim.Native.Nat.{ℕ}
 use mathlib.Core.Path.{refl, _∙_}
 use mathlib.Core.List.{[], _∷_}
 use native.Mathlib.Omega.{arith}
-use lib.ListN.{length-replicate}
 use Rattle.lists.proofs.Buffers.{over-padded}
 use Rattle.palette.specs.Cards.{mostEntries}
 use Rattle.swatch.specs.Output.{printedLine, printedMost}
