@@ -35,7 +35,7 @@ mod grounds;
 mod printing;
 
 // 10,000 times the major number, plus 100 times the minor one, plus the patch. The file VERSION is its source: tools/version writes it here.
-const VERSION: u32 = 10000;
+const VERSION: u32 = 20000;
 
 // The answers of the public calls. Each has the call's number: 0 when it is served, else the ground on which it is turned down,
 // with zero in every other figure.

@@ -1,7 +1,9 @@
 -- `kistrovu_print_ground` keeps its promise. Assumes nothing.
-use mathlib.Core.Path.{refl, _∙_}
+use Prim.Native.Nat.{ℕ}
+use mathlib.Core.Path.{_≡_, refl, _∙_}
 use mathlib.Core.List.{[], _∷_}
 use native.Mathlib.Omega.{arith}
+use lib.ListN.{length}
 use Rattle.lists.proofs.Buffers.{over-padded}
 use Rattle.palette.specs.Cards.{mostEntries}
 use Rattle.swatch.specs.Output.{printedLine, printedMost}
@@ -11,6 +13,10 @@ use borrow.Author.Needs.{needs}
 use Rattle.kistrovu.proofs.kistrovu_print_ground.Statement.{statement}
 use Rattle.kistrovu.proofs.kistrovu_print_ground.Tie as tie
 
+-- whatever the number
+seven-bytes : (n k : ℕ) → k ≡ length (printedLine (n ∷ [])) → k ≡ 7
+seven-bytes n k e = e ∙ line-length (n ∷ [])
+
 slice-aggregate-print-number : tie.Need-slice-aggregate-print-number
 slice-aggregate-print-number c = search needs
 
@@ -18,7 +24,7 @@ print-number-requires : tie.Need-print-number-requires
 print-number-requires c κs = search needs
 
 cast-t6 : tie.Need-cast-t6
-cast-t6 c = omega (arith, c .before .print-number .ensures .1, line-length (c .before .before .before .args .number ∷ []))
+cast-t6 c = let seven = seven-bytes _ _ (c .before .print-number .ensures .1) in omega arith
 
 returns : tie.Need-returns
 unfolding groundAnswer printedMost mostEntries
