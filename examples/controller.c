@@ -122,11 +122,14 @@ int main(int argc, char **argv)
     if (status != 0)
         return status;
 
-    /* One call reads the text and prints the card, or the line with the number. */
+    /* One call reads the text and prints the card; another prints the line of a ground. */
     struct kistrovu_printed printed = kistrovu_print_card(text, bytes);
+    uint32_t number = printed.number;
+    if (number != KISTROVU_SERVED)
+        printed = kistrovu_print_ground(number);
     fwrite(printed.bytes, 1, printed.len, stdout);
-    if (printed.number != KISTROVU_SERVED)
-        status = complain((int)printed.number, "turned down", sentences[printed.number]);
+    if (number != KISTROVU_SERVED)
+        status = complain((int)number, "turned down", sentences[number]);
     else if (with_labels)
         status = label_rows(&printed);
 

@@ -19,10 +19,10 @@
  *
  * Every call is served or turned down. Its answer has a number: 0 when it is served, else the ground on which it is
  * turned down (enum kistrovu_ground). A call tests the grounds that concern it in the order of their numbers, and the
- * first that holds is its number. A turned-down answer is safe to read and to pass on: every other figure of it is zero
- * (but for the line that kistrovu_print_card gives to print), and every lent buffer is as it was, so that what an earlier
- * call has left there still holds. The same arguments always get the same answer; there is nothing to set up, to free or
- * to try again. No call asks anything of its caller but what C cannot check:
+ * first that holds is its number. A turned-down answer is safe to read and to pass on: every other figure of it is zero,
+ * and every lent buffer is as it was, so that what an earlier call has left there still holds. The same arguments always
+ * get the same answer; there is nothing to set up, to free or to try again. No call asks anything of its caller but what C
+ * cannot check:
  *
  *   - a pointer and a length name that many readable places, and writable ones where the pointer is not const;
  *     a pointer is aligned for its type and not null, also where the length is 0;
@@ -53,7 +53,7 @@ extern "C" {
 /* ---- the version of this header and, from the call, of the library: a program whose two differ was linked to another
  * release. Major: a declaration, a number or a figure's meaning changed. Minor: something was added. */
 
-#define KISTROVU_VERSION_MAJOR 1
+#define KISTROVU_VERSION_MAJOR 2
 #define KISTROVU_VERSION_MINOR 0
 #define KISTROVU_VERSION_PATCH 0
 #define KISTROVU_VERSION (10000 * KISTROVU_VERSION_MAJOR + 100 * KISTROVU_VERSION_MINOR + KISTROVU_VERSION_PATCH)
@@ -169,10 +169,9 @@ struct kistrovu_card { /* 3,068 bytes */
 
 struct kistrovu_card kistrovu_card(const uint8_t *pixels, size_t bytes, uint32_t closeness, uint8_t *labels, size_t places);
 
-/* ---- what the card program prints for the text of a swatch, at closeness 0. Grounds 1, 2, 3, 11
- * docs/FORMAT.md has both texts. The first len places of bytes hold the text of the card, or the one line with the number
- * of a swatch that is turned down; the rest are zero, but a full card leaves none, so use len. A text may be cut off
- * after KISTROVU_MOST_TEXT + 1 bytes: the answer is the same. */
+/* ---- the card of a swatch, both as text, at closeness 0. Grounds 1, 2, 3, 11
+ * docs/FORMAT.md has both texts. The first len places of bytes hold the text of the card; the rest are zero, but a full
+ * card leaves none, so use len. A text may be cut off after KISTROVU_MOST_TEXT + 1 bytes: the answer is the same. */
 
 struct kistrovu_printed { /* 12,524 bytes */
     uint32_t number;
@@ -181,6 +180,11 @@ struct kistrovu_printed { /* 12,524 bytes */
 };
 
 struct kistrovu_printed kistrovu_print_card(const uint8_t *text, size_t bytes);
+
+/* ---- the line that the card program prints for a swatch that is turned down: the ground's number in 6 columns and a line
+ * feed, 7 bytes. No ground concerns it: any number has a line, one of more than six digits that of its last six. */
+
+struct kistrovu_printed kistrovu_print_ground(uint32_t number);
 
 #ifdef __cplusplus
 }

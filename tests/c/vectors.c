@@ -16,7 +16,7 @@
 #include <stdlib.h>
 #include <string.h>
 
-enum { MOST_FIELDS = 8, MOST_NAME = 16, MOST_PATH = 4096, ENTRY = 8, MEASURED = 8, GUARD = 64, GUARD_BYTE = 0xa5 };
+enum { FORMAT = 2, MOST_FIELDS = 8, MOST_NAME = 16, MOST_PATH = 4096, ENTRY = 8, MEASURED = 8, GUARD = 64, GUARD_BYTE = 0xa5 };
 
 /* A name with all its values. Texts are lists of bytes. */
 struct field {
@@ -530,28 +530,48 @@ static void load(const struct reader *reader, const struct field *named, struct 
     free(bytes);
 }
 
+/* A text of the record, or the one in the file that it names, which is then loaded. */
+static const struct field *text_at(const struct reader *reader, size_t place, const char *inside, const char *in_file,
+                                   struct field *loaded)
+{
+    if (!has(reader, place, in_file)) {
+        return field_at(reader, place, inside);
+    }
+    load(reader, field_at(reader, place, in_file), loaded);
+    return loaded;
+}
+
+/* The three figures behind what was given. */
+static bool same_printed(const struct reader *reader, const struct kistrovu_printed *found)
+{
+    struct field loaded = {.count = 0};
+    const struct field *kept = text_at(reader, 3, "printed", "printed_file", &loaded);
+    bool hold = same_value(reader, 1, "number", found->number)
+        && same_value(reader, 2, "len", found->len)
+        && same(reader, "bytes printed", 0, (int64_t)kept->count, found->len)
+        && same_bytes(reader, kept, found->bytes, KISTROVU_MOST_PRINTED);
+    free(loaded.values);
+    return hold;
+}
+
 static bool print_card_holds(const struct reader *reader, size_t *cases)
 {
-    struct field text = {.count = 0}, printed = {.count = 0};
-    bool in_files = has(reader, 0, "text_file");
-    if (in_files) {
-        load(reader, field_at(reader, 0, "text_file"), &text);
-        load(reader, field_at(reader, 3, "printed_file"), &printed);
-    }
-    const struct field *given = in_files ? &text : field_at(reader, 0, "text");
-    const struct field *kept = in_files ? &printed : field_at(reader, 3, "printed");
+    struct field loaded = {.count = 0};
+    const struct field *given = text_at(reader, 0, "text", "text_file", &loaded);
     uint8_t *lent = bytes_of(given, allocate(given->count));
     struct kistrovu_printed found = kistrovu_print_card(lent, given->count);
-    bool hold = same_value(reader, 1, "number", found.number)
-        && same_value(reader, 2, "len", found.len)
-        && same(reader, "bytes printed", 0, (int64_t)kept->count, found.len)
-        && same_bytes(reader, kept, found.bytes, KISTROVU_MOST_PRINTED)
-        && same_bytes(reader, given, lent, given->count);
+    bool hold = same_printed(reader, &found) && same_bytes(reader, given, lent, given->count);
     free(lent);
-    free(text.values);
-    free(printed.values);
+    free(loaded.values);
     (*cases)++;
     return hold;
+}
+
+static bool print_ground_holds(const struct reader *reader, size_t *cases)
+{
+    struct kistrovu_printed found = kistrovu_print_ground((uint32_t)value_at(reader, 0, "ground"));
+    (*cases)++;
+    return same_printed(reader, &found);
 }
 
 /* ---- the files */
@@ -570,13 +590,14 @@ static const struct {
     {"ring_modes", ring_modes_hold, 6},
     {"card", card_holds, 7},
     {"print_card", print_card_holds, 4},
+    {"print_ground", print_ground_holds, 4},
 };
 
 /* How many cases the header announces. */
 static size_t announced(struct reader *reader)
 {
-    if (!next_record(reader) || value_at(reader, 0, "format") != 1) {
-        stop(reader, "not format 1");
+    if (!next_record(reader) || value_at(reader, 0, "format") != FORMAT) {
+        stop(reader, "not format %d", FORMAT);
     }
     char call[MOST_PATH];
     int len = snprintf(call, sizeof call, "kistrovu_%s", reader->name);

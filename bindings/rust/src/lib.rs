@@ -26,7 +26,8 @@
 //! | [`line_modes`], [`line_modes_into`] | where the modes of a line of bins begin and end | 6, 7, 8; into a list also 10 |
 //! | [`ring_modes`], [`ring_modes_into`] | the same of a ring | 6, 7, 8; into a list also 10 |
 //! | [`card`], [`card_into`] | the card of an image and the label of each pixel | 4, 5, 8, 11; into labels also 9 |
-//! | [`print_card`] | what the card program prints for the text of a swatch | 1, 2, 3, 11 |
+//! | [`print_card`] | the text of the card of a swatch that is given as text | 1, 2, 3, 11 |
+//! | [`print_ground`] | the line that the card program prints for a swatch that is turned down | none |
 //! | [`version`] | which version the library is | none |
 //!
 //! A *swatch* is the scan of a piece of cloth: the program reads it as text, and the card call takes its pixels. The
@@ -78,7 +79,7 @@ pub use measures::{measures, Measures};
 #[cfg(feature = "alloc")]
 pub use modes::{line_modes, ring_modes};
 pub use modes::{line_modes_into, ring_modes_into};
-pub use texts::{print_card, Printed};
+pub use texts::{print_card, print_ground, Printed};
 pub use versions::{version, Version};
 
 /// Runs the example of the README with those of the documentation.

@@ -122,15 +122,15 @@ pub struct Card {
     pub entries: [Entry; MOST_ENTRIES],
 }
 
-/// What [`kistrovu_print_card`] hands back.
+/// What [`kistrovu_print_card`] and [`kistrovu_print_ground`] hand back.
 #[repr(C)]
 #[derive(Clone, Copy, Debug, PartialEq, Eq)]
 pub struct Printed {
-    /// 0, 1, 2, 3 or 11.
+    /// 0, 1, 2, 3 or 11; always 0 of the line of a ground.
     pub number: u32,
-    /// How many bytes are printed.
+    /// How many bytes there are to print.
     pub len: u32,
-    /// What is printed in the first places; the rest are zero.
+    /// The bytes to print in the first places; the rest are zero.
     pub bytes: [u8; MOST_PRINTED],
 }
 
@@ -189,6 +189,9 @@ extern "C" {
         places: usize,
     ) -> Card;
 
-    /// What the card program prints for the text of a swatch. Grounds 1, 2, 3, 11.
+    /// The card of a swatch, both as text. Grounds 1, 2, 3, 11.
     pub fn kistrovu_print_card(text: *const u8, bytes: usize) -> Printed;
+
+    /// The line that the card program prints for a swatch that is turned down. No ground concerns it.
+    pub fn kistrovu_print_ground(number: u32) -> Printed;
 }

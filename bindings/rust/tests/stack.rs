@@ -33,7 +33,7 @@ fn the_largest_image() {
 fn printed(name: &str) -> usize {
     let text = file(&format!("tests/swatches/{name}.txt"));
     let card = file(&format!("tests/swatches/{name}.card"));
-    let printed = with_a_megabyte(move || print_card(text.as_bytes()));
+    let printed = with_a_megabyte(move || print_card(text.as_bytes())).expect(name);
     assert_eq!(printed.bytes(), card.as_bytes());
     card.len()
 }

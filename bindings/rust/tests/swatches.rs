@@ -75,8 +75,7 @@ fn cards_are_the_stored_ones_and_so_is_what_is_printed() {
         let mut lines = line(&[card.entries.len() as u32, pixels.len() as u32 / 3, 0]);
         lines.extend(card.entries.iter().map(|entry| line(&figures(entry))));
         assert_eq!(lines, stored, "{name}");
-        let printed = print_card(text.as_bytes());
-        assert_eq!(printed.ground(), None, "{name}");
+        let printed = print_card(text.as_bytes()).expect(&name);
         assert_eq!(printed.bytes(), stored.as_bytes(), "{name}");
     }
 }

@@ -4,7 +4,8 @@ use mathlib.Core.Path.{_≡_, refl, sym, ap, _∙_}
 use mathlib.Core.Bool.{Bool, true, false, not, false≢true}
 use mathlib.Core.List.{List, [], _∷_}
 use lib.Dec.{eqb, ltb}
-use lib.ListN.{length, getD}
+use lib.ListN.{length, take, getD, List·getD-append}
+use lib.Seq.{take-append-seam}
 use native.Mathlib.Omega.{arith}
 use native.Mathlib.Nat.{div-add-mod}
 use borrow.Author.Tests.{ltb-false, eqb-true, ne-eqb, lt-ltb, le-ltb, lt-leb, le-leb}
@@ -13,14 +14,14 @@ use Rattle.pixel.specs.declared.Pixel.{Pixel}
 use Rattle.verdict.specs.Test.{Closeness, mostCloseness}
 use Rattle.palette.specs.declared.Entry.{Entry}
 use Rattle.palette.specs.Cards.{pixelsOf, entries, labels, mostEntries, noEntry}
-use Rattle.palette.specs.Sound.{mostPixels, SoundCard}
+use Rattle.palette.specs.Sound.{mostPixels, entryAt, SoundCard}
 use Rattle.palette.proofs.Always.{always-sound}
 use Rattle.palette.proofs.Triples.{pixels-length, pixels-bytes}
 use Rattle.making.specs.Making.{cardEntries, labelsLeft}
 use Rattle.kistrovu.specs.declared.Card.{Card}
 use Rattle.kistrovu.specs.Grounds.{firstGround, badBytes, manyPixels, badCloseness, badLabels, manyEntries, askedNumber, cardNumber}
 use Rattle.kistrovu.specs.Answers.{servedEntries, cardAnswer, labelList}
-use Rattle.kistrovu.specs.Facts.{CardAgain}
+use Rattle.kistrovu.specs.Facts.{SoundAnswer, CardAgain}
 use Rattle.kistrovu.proofs.Served.{ground-none, grounds-served, grounds-turned-down, neither}
 
 abbrev pub made : ℕ → ℕ → List Entry → Card
@@ -119,3 +120,38 @@ total-is e ps = refl
 pub card-sound : (e : Closeness) (bytes : List ℕ) (places : ℕ) → ((j : ℕ) → getD bytes j 0 < 256) → Asked e bytes places → SoundCard e (pixelsOf bytes)
 card-sound e bytes places byte a =
     always-sound e (pixelsOf bytes) (omega (arith, pixels-length bytes places (a .threes), a .few)) (λ i l. pixels-bytes bytes byte i)
+
+-- ---- the entries of a card, out of its places: one, and all
+entry-padded : (n : ℕ) (es : List Entry) (k : ℕ) → k < length es → entryAt (padded n noEntry es) k ≡ entryAt es k
+unfolding padded
+entry-padded n es k l = List·getD-append es _ noEntry k l
+
+pub take-padded : (n : ℕ) (es : List Entry) → take (length es) (padded n noEntry es) ≡ es
+unfolding padded
+take-padded n es = take-append-seam es _
+
+-- demand D3 of the card handed back
+pub handed-sound : (e : Closeness) (bytes : List ℕ) → SoundCard e (pixelsOf bytes)
+    → SoundAnswer e bytes (made 0 (length (entries e (pixelsOf bytes))) (padded mostEntries noEntry (entries e (pixelsOf bytes)))) (labels e (pixelsOf bytes))
+handed-sound e bytes s =
+    let es = entries e (pixelsOf bytes) in
+    let held = entry-padded mostEntries es in
+    record {
+      greys = s .greys;
+      colours = s .colours;
+      labelled = s .labelled;
+      pixels = λ i l.
+          let p = s .pixels i (omega (arith, s .labelled)) in
+          record {
+            one = record {
+              number = p .one .number;
+              inRange = p .one .inRange;
+              passes = rw (held (p .one .number) (p .one .inRange)) (p .one .passes);
+              only = λ m k t. p .one .only m k (rw (held m k) at t);
+            };
+            label = p .label;
+          };
+      counts = λ n l. rw (held n l) (s .counts n l);
+      noneEmpty = λ n l. rw (held n l) (s .noneEmpty n l);
+      everyPixel = rw (take-padded mostEntries es) (s .everyPixel ∙ sym (s .labelled));
+    }

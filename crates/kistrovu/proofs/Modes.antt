@@ -61,9 +61,10 @@ module _ (e : Closeness) (h list : List ℕ) (n : ℕ) (number : n ≡ modesNumb
     ring-served k = answer-served (ringSeparators e h) (modesNumber e h (length list)) k none
 
     -- the order in which the separators are listed is that from the opening on
-    pub ring-listed : (after : List ℕ) → after ≡ over (ringSeparators e h) list → RingList e h list after
-    ring-listed after l = record {
-      listed = λ u. (ringSeparators e h, ring-always-listed e h (modes-accepted .histogram .some), l);
+    pub ring-listed : (k : ℕ) (after : List ℕ) → k ≡ length (ringSeparators e h) → after ≡ over (ringSeparators e h) list
+        → RingList e h list after (record { number = 0; separators = k })
+    ring-listed k after count l = record {
+      listed = λ u. (ringSeparators e h, ring-always-listed e h (modes-accepted .histogram .some), sym count, l);
       asLent = λ u. absurd (omega (arith, none));
     }
 
@@ -83,5 +84,5 @@ module _ (e : Closeness) (h list : List ℕ) (n : ℕ) (number : n ≡ modesNumb
     unfolding ringAnswer
     ring-turned-down = answer-turned-down (ringSeparators e h) n (modesNumber e h (length list)) number d
 
-    pub ring-as-lent : RingList e h list list
+    pub ring-as-lent : RingList e h list list (record { number = n; separators = 0 })
     ring-as-lent = record { listed = λ z. absurd (d (number ∙ z)); asLent = λ u. refl }

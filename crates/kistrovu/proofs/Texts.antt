@@ -2,33 +2,31 @@
 use Prim.Native.Nat.{ℕ, zero, suc, _≤_}
 use mathlib.Core.Path.{_≡_, refl, sym, ap, _∙_}
 use mathlib.Core.Bool.{Bool, true, false, cond}
-use mathlib.Core.List.{List, [], _∷_}
+use mathlib.Core.List.{List, []}
 use lib.Dec.{eqb, ltb, eqb·suc-zero}
 use lib.ListN.{length, take}
-use lib.Seq.{take-append-seam}
 use native.Mathlib.Omega.{arith}
 use borrow.Author.Tests.{ltb-false, eqb-true, ne-eqb, le-leb}
 use Rattle.pixel.specs.declared.Pixel.{Pixel}
 use Rattle.verdict.specs.Test.{Closeness}
-use Rattle.lists.specs.Lists.{missing, padded}
+use Rattle.lists.specs.Lists.{missing, over}
 use Rattle.lists.proofs.Cases.{by-cond}
-use Rattle.palette.specs.declared.Entry.{Entry}
 use Rattle.making.specs.declared.CardEntries.{CardEntries}
 use Rattle.making.specs.Making.{cardEntries}
-use Rattle.palette.specs.Cards.{pixelsOf, entries, mostEntries, noEntry}
+use Rattle.palette.specs.Cards.{pixelsOf, entries, mostEntries}
 use Rattle.swatch.specs.Input.{headerOf, sizeOf, pixelBytes, bytesOf}
 use Rattle.swatch.specs.declared.Reading.{Reading}
 use Rattle.swatch.specs.Reading.{mostSwatchPixels, badSize, swatchNumber, readingOf, longestSwatch}
-use Rattle.swatch.specs.Output.{printedLine, printedCard, printedMost}
-use Rattle.swatch.proofs.PrintedLengths.{line-length, printed-fits}
+use Rattle.swatch.specs.Output.{printedCard, printedMost}
+use Rattle.swatch.proofs.PrintedLengths.{printed-fits}
 use Rattle.swatch.proofs.Long.{long-text}
-use Rattle.kistrovu.specs.declared.Said.{Said}
-use Rattle.kistrovu.specs.declared.Printed.{Printed}
+use Rattle.kistrovu.specs.declared.printing.Outcome.{Outcome}
 use Rattle.kistrovu.specs.Grounds.{firstGround, programCloseness, textNumber}
-use Rattle.kistrovu.specs.Answers.{printed, printedAnswer}
+use Rattle.kistrovu.specs.Answers.{printed, printedBytes, printedAnswer}
 use Rattle.kistrovu.specs.Facts.{LongText, PrintedFits}
-use Rattle.kistrovu.specs.Texts.{Refused, PixelsPrinted, TextPrinted}
+use Rattle.kistrovu.specs.Texts.{PixelsPrinted, TextPrinted}
 use Rattle.kistrovu.proofs.Served.{neither}
+use Rattle.kistrovu.proofs.Cards.{take-padded}
 
 -- ---- the number of a text
 many : List ℕ → Bool
@@ -45,16 +43,6 @@ text-number text = go (missing (headerOf text)) (badSize (sizeOf text)) (missing
     go false false true d = refl
     go false false false d = refl
 
-pub swatch-number-le : (text : List ℕ) → swatchNumber text ≤ 3
-unfolding swatchNumber
-swatch-number-le text = go (missing (headerOf text)) (badSize (sizeOf text)) (missing (pixelBytes text))
-  where
-    go : (a b c : Bool) → cond a 1 (cond b 2 (cond c 3 0)) ≤ 3
-    go true b c = omega arith
-    go false true c = omega arith
-    go false false true = omega arith
-    go false false false = omega arith
-
 pub swatch-few : (text : List ℕ) → swatchNumber text ≡ 0 → sizeOf text ≤ mostSwatchPixels
 unfolding swatchNumber
 swatch-few text z = go (missing (headerOf text)) (badSize (sizeOf text)) (missing (pixelBytes text)) refl z
@@ -66,19 +54,14 @@ swatch-few text z = go (missing (headerOf text)) (badSize (sizeOf text)) (missin
     go false false false q y = ltb-false mostSwatchPixels (sizeOf text) (neither (eqb (sizeOf text) 0) (ltb mostSwatchPixels (sizeOf text)) q .1)
 
 -- ---- what is printed
-module _ (text before after : List ℕ) (r : Said) where
-  pub text-refused : ¬ (swatchNumber text ≡ 0) → Refused (swatchNumber text) before after r → TextPrinted text before after r
-  unfolding printed
-  text-refused n p =
-      let is : textNumber text ≡ swatchNumber text = text-number text ∙ rw (ne-eqb (swatchNumber text) 0 n) refl in (
-        record {
-          numbered = p .numbered ∙ sym is;
-          long = rw (is, ne-eqb (swatchNumber text) 0 n) (p .long);
-          written = rw (is, ne-eqb (swatchNumber text) 0 n) (p .written);
-        },
-        λ z. absurd (n (sym is ∙ z)),
-      )
+-- nothing, and the buffer stays, where the reading of the text turns it down
+pub text-refused : (text buffer : List ℕ) (n : ℕ) → n ≡ swatchNumber text → ¬ (n ≡ 0) → TextPrinted text buffer buffer (record { number = n; len = 0 })
+unfolding printed over
+text-refused text buffer n number some =
+    let is : textNumber text ≡ n = text-number text ∙ rw (sym number, ne-eqb n 0 some) refl in
+    (record { numbered = sym is; long = rw (is, ne-eqb n 0 some) refl; written = rw (is, ne-eqb n 0 some) refl }, λ z. absurd (some (sym is ∙ z)))
 
+module _ (text before after : List ℕ) (r : Outcome) where
   pub text-made : swatchNumber text ≡ 0 → PixelsPrinted (bytesOf text) before after r → TextPrinted text before after r
   unfolding printed many
   text-made z p = go (ltb mostEntries (length (entries programCloseness (pixelsOf (bytesOf text))))) refl
@@ -96,10 +79,6 @@ module _ (text before after : List ℕ) (r : Said) where
           )
 
 -- ---- the entries of a card, out of its places
-take-padded : (n : ℕ) (es : List Entry) → take (length es) (padded n noEntry es) ≡ es
-unfolding padded
-take-padded n es = take-append-seam es _
-
 pub entries-held : (e : Closeness) (ps : List Pixel) (m : CardEntries) → m ≡ cardEntries e ps → m .total ≤ mostEntries → take (m .total) (m .entries) ≡ entries e ps
 unfolding cardEntries
 entries-held e ps m is few =
@@ -117,25 +96,18 @@ text-few text z = go (swatchNumber text) (many text) (sym (text-number text) ∙
     go zero false q = refl
     go (suc n) m q = absurd (omega (arith, rw (eqb·suc-zero n) at q))
 
-pub line-fits : (n : ℕ) → length (printedLine (n ∷ [])) ≤ printedMost
-unfolding printedMost mostEntries
-line-fits n = omega (arith, line-length (n ∷ []))
-
 pub text-fits : PrintedFits
 unfolding printed many
 text-fits text =
     let ps = pixelsOf (bytesOf text) in
     let es = entries programCloseness ps in
-    by-cond (λ (xs : List ℕ). length xs ≤ printedMost) (eqb (textNumber text) 0) (printedCard (length ps) programCloseness es) (printedLine (textNumber text ∷ []))
+    by-cond (λ (xs : List ℕ). length xs ≤ printedMost) (eqb (textNumber text) 0) (printedCard (length ps) programCloseness es) []
     (λ q. printed-fits (length ps) programCloseness es (ltb-false mostEntries (length es) (text-few text (eqb-true (textNumber text) 0 q))))
-    (λ q. line-fits (textNumber text))
+    (λ q. omega arith)
 
 -- ---- a text longer than any swatch
-refused : ℕ → Printed
-refused n = record { number = n; len = length (printedLine (n ∷ [])); bytes = padded printedMost 0 (printedLine (n ∷ [])) }
-
-refused-answer : (text : List ℕ) → ¬ (swatchNumber text ≡ 0) → printedAnswer text ≡ refused (swatchNumber text)
-unfolding printedAnswer printed refused
+refused-answer : (text : List ℕ) → ¬ (swatchNumber text ≡ 0) → printedAnswer text ≡ printedBytes (swatchNumber text) []
+unfolding printedAnswer printed
 refused-answer text n =
     let is : textNumber text ≡ swatchNumber text = text-number text ∙ rw (ne-eqb (swatchNumber text) 0 n) refl in
     rw (is, ne-eqb (swatchNumber text) 0 n) refl
@@ -145,5 +117,5 @@ unfolding readingOf
 long-text-printed text l =
     let r = long-text text l in
     let same : swatchNumber (take (suc longestSwatch) text) ≡ swatchNumber text = ap (λ (x : Reading). x .number) (r .0) in
-    refused-answer (take (suc longestSwatch) text) (λ z. absurd (omega (arith, z, same, r .1))) ∙ ap refused same
+    refused-answer (take (suc longestSwatch) text) (λ z. absurd (omega (arith, z, same, r .1))) ∙ ap (λ (n : ℕ). printedBytes n []) same
     ∙ sym (refused-answer text (λ z. absurd (omega (arith, z, r .1))))

@@ -31,7 +31,7 @@ served n a b = cond (eqb n 0) a b
 
 -- A1: the version in the file VERSION, major · 10,000 + minor · 100 + patch. tools/version writes it here
 abbrev pub libraryVersion : ℕ
-libraryVersion = 10000
+libraryVersion = 20000
 
 unfoldable pub measuresAnswer : ℕ → ℕ → ℕ → MeasuresAnswer
 measuresAnswer r g b = record { number = 0; measures = measuresOf (record { red = r; green = g; blue = b }) }
@@ -84,15 +84,19 @@ cardAnswer e bytes places = record {
 unfoldable pub labelList : Closeness → List ℕ → List ℕ → List ℕ
 labelList e bytes list = served (cardNumber e bytes (length list)) (labels e (pixelsOf bytes)) list
 
--- X5 and X7: what the program prints for the text of a swatch
+-- X5 and X6: the bytes of a text's card; none where the text is turned down
 unfoldable pub printed : List ℕ → List ℕ
 printed text =
     let ps = pixelsOf (bytesOf text) in
-    served (textNumber text) (printedCard (length ps) programCloseness (entries programCloseness ps)) (printedLine (textNumber text ∷ []))
+    served (textNumber text) (printedCard (length ps) programCloseness (entries programCloseness ps)) []
+
+-- bytes to print in the first places, and zeros in the rest (A4)
+abbrev pub printedBytes : ℕ → List ℕ → Printed
+printedBytes number xs = record { number = number; len = length xs; bytes = padded printedMost 0 xs }
 
 unfoldable pub printedAnswer : List ℕ → Printed
-printedAnswer text = record {
-  number = textNumber text;
-  len = length (printed text);
-  bytes = padded printedMost 0 (printed text);
-}
+printedAnswer text = printedBytes (textNumber text) (printed text)
+
+-- the line of a ground (X7). The call takes every number and is always served
+unfoldable pub groundAnswer : ℕ → Printed
+groundAnswer number = printedBytes 0 (printedLine (number ∷ []))

@@ -1,13 +1,20 @@
 -- What holds beside the equations: of a served call (D2 and D3), of a ring call's list, of a card made twice, and of the program's text. Assumes nothing.
 use Prim.Native.Nat.{ℕ, suc, _≤_, _<_}
 use mathlib.Core.Path.{_≡_}
-use mathlib.Core.List.{List}
-use lib.ListN.{length, take}
-use Rattle.lists.specs.Lists.{over}
+use mathlib.Core.List.{List, map}
+use lib.Dec.{eqb}
+use lib.ListN.{length, take, getD}
+use Rattle.lists.specs.Lists.{over, total, countIf, ExactlyOne}
 use Rattle.verdict.specs.Test.{Closeness}
 use Rattle.segmentation.specs.Finished.{ListsOnce}
+use Rattle.palette.specs.declared.Entry.{Entry}
+use Rattle.palette.specs.Levels.{greyLevels, colourLevels}
+use Rattle.palette.specs.Cards.{allGreys, allColours, members, pixelsOf}
+use Rattle.palette.specs.Sound.{pixelAt, entryAt, countsUnder, AllSound}
 use Rattle.swatch.specs.Reading.{longestSwatch}
 use Rattle.swatch.specs.Output.{printedMost}
+use Rattle.kistrovu.specs.declared.ModesAnswer.{ModesAnswer}
+use Rattle.kistrovu.specs.declared.Card.{Card}
 use Rattle.kistrovu.specs.Grounds.{modesNumber, cardNumber}
 use Rattle.kistrovu.specs.Answers.{cardAnswer, labelList, printed, printedAnswer}
 
@@ -18,10 +25,29 @@ IfServed n P = n ≡ 0 → P
 abbrev pub IfTurnedDown : ℕ → Type 0 → Type 0
 IfTurnedDown n P = 0 < n → P
 
--- R5: the separator list of a ring call, lent as `before` and left as `after`. Its order is the one free part, and `order` names it
-pub record RingList (e : Closeness) (h before after : List ℕ) : Type 0 where
-  pub listed : IfServed (modesNumber e h (length before)) ((order : List ℕ) × ListsOnce e h order × (after ≡ over order before))
+-- R5: the separator list of a ring call, lent as `before` and left as `after`. Its order is the one free part: `order` names it and has as many members as
+-- the answer r says
+pub record RingList (e : Closeness) (h before after : List ℕ) (r : ModesAnswer) : Type 0 where
+  pub listed : IfServed (modesNumber e h (length before)) ((order : List ℕ) × ListsOnce e h order × (length order ≡ r .separators) × (after ≡ over order before))
   pub asLent : IfTurnedDown (modesNumber e h (length before)) (after ≡ before)
+
+-- D3 of a served card call, said of what it hands back alone: the answer r, and the labels that it leaves
+module _ (e : Closeness) (bytes : List ℕ) (r : Card) (labels : List ℕ) where
+  -- pixel i counts under exactly one of the entries, and bears its number
+  pub record BearsItsEntry (i : ℕ) : Type 0 where
+    pub one : ExactlyOne (r .len) (λ n. countsUnder e (pixelsOf bytes) (entryAt (r .entries) n) (pixelAt (pixelsOf bytes) i))
+    pub label : getD labels i 0 ≡ one .number
+
+  pub record SoundAnswer : Type 0 where
+    -- every histogram of the card is sound: of the greys, and of the colours
+    pub greys : 0 < length (members (pixelsOf bytes) allGreys) → AllSound e (pixelsOf bytes) greyLevels allGreys
+    pub colours : 0 < length (members (pixelsOf bytes) allColours) → AllSound e (pixelsOf bytes) colourLevels allColours
+    pub labelled : length labels ≡ length (pixelsOf bytes)
+    pub pixels : (i : ℕ) → i < length labels → BearsItsEntry i
+    -- an entry's count is how many labels are its number (C8), no entry is empty, and the counts add up to the pixels
+    pub counts : (n : ℕ) → n < r .len → entryAt (r .entries) n .count ≡ countIf (eqb n) labels
+    pub noneEmpty : (n : ℕ) → n < r .len → 0 < entryAt (r .entries) n .count
+    pub everyPixel : total (map (λ (t : Entry). t .count) (take (r .len) (r .entries))) ≡ length labels
 
 -- a card made twice is one card: what was in the label buffer has no say. Proved in proofs/Cards
 abbrev pub CardAgain : Type 0

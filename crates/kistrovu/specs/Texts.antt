@@ -2,37 +2,34 @@
 use Prim.Native.Nat.{ℕ}
 use mathlib.Core.Path.{_≡_}
 use mathlib.Core.Bool.{cond}
-use mathlib.Core.List.{List, [], _∷_}
+use mathlib.Core.List.{List, []}
 use lib.Dec.{ltb}
 use lib.ListN.{length}
 use Rattle.lists.specs.Lists.{over}
 use Rattle.palette.specs.Cards.{pixelsOf, entries, mostEntries}
 use Rattle.palette.specs.Sound.{SoundCard}
 use Rattle.swatch.specs.Input.{bytesOf}
-use Rattle.swatch.specs.Output.{printedLine, printedCard}
+use Rattle.swatch.specs.Output.{printedCard}
 use Rattle.kistrovu.specs.Grounds.{programCloseness, textNumber}
 use Rattle.kistrovu.specs.Answers.{printed}
 use Rattle.kistrovu.specs.Facts.{IfServed}
-use Rattle.kistrovu.specs.declared.Said.{Said}
+use Rattle.kistrovu.specs.declared.printing.Outcome.{Outcome}
 
--- a text with this number, and with this list printed
-pub record Prints (number : ℕ) (list before after : List ℕ) (r : Said) : Type 0 where
+-- a text with this number, and with this list written
+pub record Prints (number : ℕ) (list before after : List ℕ) (r : Outcome) : Type 0 where
   pub numbered : r .number ≡ number
   pub long : r .len ≡ length list
   pub written : after ≡ over list before
 
-abbrev pub Refused : ℕ → List ℕ → List ℕ → Said → Type 0
-Refused number before after r = Prints number (printedLine (number ∷ [])) before after r
-
 -- of pixels: the number 11 or the card
-abbrev pub PixelsPrinted : List ℕ → List ℕ → List ℕ → Said → Type 0
+abbrev pub PixelsPrinted : List ℕ → List ℕ → List ℕ → Outcome → Type 0
 PixelsPrinted bytes before after r =
     let ps = pixelsOf bytes in
     let es = entries programCloseness ps in
     let many = ltb mostEntries (length es) in
-    Prints (cond many 11 0) (cond many (printedLine (11 ∷ [])) (printedCard (length ps) programCloseness es)) before after r
+    Prints (cond many 11 0) (cond many [] (printedCard (length ps) programCloseness es)) before after r
     × SoundCard programCloseness ps
 
-abbrev pub TextPrinted : List ℕ → List ℕ → List ℕ → Said → Type 0
+abbrev pub TextPrinted : List ℕ → List ℕ → List ℕ → Outcome → Type 0
 TextPrinted text before after r =
     Prints (textNumber text) (printed text) before after r × IfServed (textNumber text) (SoundCard programCloseness (pixelsOf (bytesOf text)))

@@ -27,14 +27,15 @@ ghost use Rattle.kistrovu.specs.Answers.{
   cardAnswer,
   labelList,
   printedAnswer,
+  groundAnswer,
 };
-ghost use Rattle.kistrovu.specs.Facts.{IfServed, RingList};
+ghost use Rattle.kistrovu.specs.Facts.{IfServed, RingList, SoundAnswer};
 
 mod grounds;
 mod printing;
 
 // 10,000 times the major number, plus 100 times the minor one, plus the patch. The file VERSION is its source: tools/version writes it here.
-const VERSION: u32 = 10000;
+const VERSION: u32 = 20000;
 
 // The answers of the public calls. Each has the call's number: 0 when it is served, else the ground on which it is turned down,
 // with zero in every other figure.
@@ -73,18 +74,12 @@ pub struct Card {
     pub entries: [Entry; MOST_ENTRIES],
 }
 
-// What the card program prints: the first len of bytes; the rest are zero.
+// A text to print: the first len of bytes; the rest are zero.
 #[repr(C)]
 pub struct Printed {
     pub number: u32,
     pub len: u32,
     pub bytes: [u8; PRINTED_MOST],
-}
-
-// The number of a text, and how many bytes are printed for it.
-pub struct Said {
-    pub number: u32,
-    pub len: u32,
 }
 
 // Which version the library is. No ground concerns it.
@@ -181,7 +176,7 @@ pub extern "C" fn kistrovu_ring_modes(
     separators: &mut [u32],
 ) -> ModesAnswer
     ensures { λ r. ⌜ (r ≡ ringAnswer closeness (now (histogram .entry)) (length (now (separators .entry))))
-        × RingList closeness (now (histogram .entry)) (now (separators .entry)) (now (separators .exit))
+        × RingList closeness (now (histogram .entry)) (now (separators .entry)) (now (separators .exit)) r
         × IfServed (r .number) (RingFinished closeness (now (histogram .entry))) ⌝ }
 {
     let number = grounds::modes_number(histogram, closeness, separators.len());
@@ -202,7 +197,7 @@ pub extern "C" fn kistrovu_ring_modes(
 pub extern "C" fn kistrovu_card(pixels: &[u8], closeness: u32, labels: &mut [u8]) -> Card
     ensures { λ r. ⌜ (r ≡ cardAnswer closeness (now (pixels .entry)) (length (now (labels .entry))))
         × (now (labels .exit) ≡ labelList closeness (now (pixels .entry)) (now (labels .entry)))
-        × IfServed (r .number) (SoundCard closeness (pixelsOf (now (pixels .entry)))) ⌝ }
+        × IfServed (r .number) (SoundAnswer closeness (now (pixels .entry)) r (now (labels .exit))) ⌝ }
 {
     let number = grounds::card_asked(pixels, closeness, labels.len());
     if number != 0 {
@@ -228,17 +223,32 @@ pub extern "C" fn kistrovu_card(pixels: &[u8], closeness: u32, labels: &mut [u8]
     }
 }
 
-// What the card program prints for the text of a swatch. Grounds 1, 2, 3, 11.
+// The text of the card of a swatch that is given as text. Grounds 1, 2, 3, 11.
 #[no_mangle]
 pub extern "C" fn kistrovu_print_card(text: &[u8]) -> Printed
     ensures { λ r. ⌜ (r ≡ printedAnswer (now (text .entry)))
         × IfServed (r .number) (SoundCard programCloseness (pixelsOf (bytesOf (now (text .entry))))) ⌝ }
 {
     let mut bytes = [0u8; PRINTED_MOST];
-    let said = printing::print(text, &mut bytes);
+    let outcome = printing::print(text, &mut bytes);
     Printed {
-        number: said.number,
-        len: said.len,
+        number: outcome.number,
+        len: outcome.len,
+        bytes,
+    }
+}
+
+// The line that the card program prints for a swatch that is turned down: the number of the ground. It takes any number, and prints
+// the last six digits of a longer one. No ground concerns it.
+#[no_mangle]
+pub extern "C" fn kistrovu_print_ground(number: u32) -> Printed
+    ensures { λ r. ⌜ r ≡ groundAnswer number ⌝ }
+{
+    let mut bytes = [0u8; PRINTED_MOST];
+    let len = swatch::print_number(number, &mut bytes);
+    Printed {
+        number: 0,
+        len: len as u32,
         bytes,
     }
 }

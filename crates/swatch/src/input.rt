@@ -1,4 +1,6 @@
 // Reading a swatch. Line k is looked for at the bytes from 13k on and nowhere else: an earlier line feed would stand in a column of a field, where it is refused.
+use crate::COLUMNS;
+use crate::LINE;
 use crate::MOST_SWATCH_PIXELS;
 use crate::Reading;
 ghost use mathlib.Core.Path.{_≡_};
@@ -17,11 +19,6 @@ ghost use Rattle.swatch.specs.Input.{
   bytesOf,
 };
 ghost use Rattle.swatch.specs.Reading.{given, colourField, mostSwatchPixels, readingOf};
-
-// A line's 12 characters, and its line feed.
-const COLUMNS: usize = 12;
-
-const LINE: usize = 13;
 
 // The value of a field, where it is one.
 struct Value {

@@ -11,6 +11,14 @@ pub use printing::print_number;
 // The most pixels that a swatch may have.
 pub const MOST_SWATCH_PIXELS: usize = 16384;
 
+// A line of a swatch: 12 characters and a line feed.
+const COLUMNS: usize = 12;
+
+const LINE: usize = COLUMNS + 1;
+
+// The most bytes that a swatch may have: a header and a line for each pixel.
+pub const LONGEST_SWATCH: usize = LINE + LINE * MOST_SWATCH_PIXELS;
+
 // The most bytes that a card prints: a line of 3 fields, and a line of 8 for each entry.
 pub const PRINTED_MOST: usize = 19 + 49 * MOST_ENTRIES;
 

@@ -2,7 +2,7 @@
 //! the reference prints.
 
 use crate::{damaged, weaves, well_formed};
-use reference::calls::{print_card, PrintedAnswer};
+use reference::calls::{program, PrintedAnswer};
 use std::fs;
 use std::path::{Path, PathBuf};
 
@@ -77,9 +77,9 @@ impl Folder {
     }
 }
 
-/// What the reference prints.
+/// What the card program prints, as the reference has it.
 pub fn printed(text: &[u8]) -> Vec<u8> {
-    let PrintedAnswer { len, bytes, .. } = print_card(text);
+    let PrintedAnswer { len, bytes, .. } = program(text);
     bytes[..len as usize].to_vec()
 }
 

@@ -1,4 +1,4 @@
-//! The two card calls, engine and reference side by side. Swatches are long, so that of a difference only the first
+//! The two card calls and the line of a ground, engine and reference side by side. Swatches are long, so that of a difference only the first
 //! entry, label or byte is shown.
 
 use crate::card_groups::CardCase;
@@ -70,23 +70,38 @@ pub fn text(text: &[u8], tally: &mut Tally) -> Result<(), Difference> {
     if (expected, text) == (answer, lent.as_slice()) {
         return Ok(());
     }
-    let told = |printed: &Printed, text: &[u8]| {
-        let end = printed.bytes.len().min(printed.len as usize);
-        let past = printed.bytes[end..].iter().all(|&byte| byte == 0);
-        format!(
-            "number {}, {} bytes {}, {}zero past them, text {}",
-            printed.number,
-            printed.len,
-            shown(&printed.bytes[..end]),
-            if past { "" } else { "not " },
-            shown(text)
-        )
-    };
+    let told = |printed: &Printed, text: &[u8]| format!("{}, text {}", told(printed), shown(text));
     Err(Difference {
         input: format!("text {} of the group, {} bytes", tally.texts, text.len()),
         reference: told(&expected, text),
         engine: told(&answer, &lent),
     })
+}
+
+pub fn ground(number: u32, tally: &mut Tally) -> Result<(), Difference> {
+    let answer = engine::print_ground(number);
+    let expected = reference::calls::print_ground(number).into_raw();
+    tally.lines += 1;
+    if expected == answer {
+        return Ok(());
+    }
+    Err(Difference {
+        input: format!("the line of ground {number}"),
+        reference: told(&expected),
+        engine: told(&answer),
+    })
+}
+
+fn told(printed: &Printed) -> String {
+    let end = printed.bytes.len().min(printed.len as usize);
+    let past = printed.bytes[end..].iter().all(|&byte| byte == 0);
+    format!(
+        "number {}, {} bytes {}, {}zero past them",
+        printed.number,
+        printed.len,
+        shown(&printed.bytes[..end]),
+        if past { "" } else { "not " }
+    )
 }
 
 /// Each place another number than the ones next to it, so that a place that is written shows, or nearly always.

@@ -68,6 +68,8 @@ pub struct Tally {
     pub cards: u64,
     pub texts: u64,
     pub stored: u64,
+    /// Lines of grounds.
+    pub lines: u64,
     /// Of several modes, or of several entries.
     pub several: u64,
     /// The most entries of a card.

@@ -16,7 +16,7 @@ use compare::card_groups::CARDS;
 use compare::comparison::{self, Calls, Difference, Form, Tally};
 use compare::groups::{Source, GROUPS};
 use compare::mode_groups::{ModesSource, BOTH, LINES, RINGS};
-use compare::text_groups::TEXTS;
+use compare::text_groups::{GROUNDS, TEXTS};
 use compare::{card_comparison, stored};
 use std::process::ExitCode;
 
@@ -28,6 +28,7 @@ const RING_STREAMS: usize = 200;
 const CARD_STREAMS: usize = 300;
 const TEXT_STREAMS: usize = 400;
 const PROGRAM_STREAM: usize = 500;
+const GROUND_STREAMS: usize = 600;
 const USAGE: &str = "usage: compare [--seed S] [--count N] \
     [--only measures|fits|verdicts|lines|rings|cards|texts|stored]";
 
@@ -128,11 +129,19 @@ fn run(options: &Options) -> (usize, usize) {
             });
             note(&format!("text, {name}"), tally, outcome);
         }
+        for (index, (name, numbers)) in GROUNDS.iter().enumerate() {
+            let mut tally = Tally::default();
+            let mut random = stream(options.seed, GROUND_STREAMS + index);
+            let outcome = numbers(&mut random, options.count)
+                .into_iter()
+                .try_for_each(|number| card_comparison::ground(number, &mut tally));
+            note(&format!("line of a ground, {name}"), tally, outcome);
+        }
     }
     if options.calls.stored {
         let mut tally = Tally::default();
-        let outcome = stored::by_call(&mut tally);
-        note("stored swatches, by the call", tally, outcome);
+        let outcome = stored::by_calls(&mut tally);
+        note("stored swatches, by the calls", tally, outcome);
         if let Some(program) = stored::program() {
             let mut tally = Tally::default();
             let outcome = stored::by_program(&program, &mut tally);
@@ -202,6 +211,8 @@ fn report(name: &str, tally: &Tally, difference: Option<Difference>) {
             "{} texts, {} served, {} turned down ({down})",
             tally.texts, tally.served, tally.turned_down
         )
+    } else if tally.lines > 0 {
+        format!("{} numbers", tally.lines)
     } else if tally.stored > 0 {
         format!("{} swatches", tally.stored)
     } else {

@@ -1,4 +1,4 @@
-//! The stored swatches of `swatches/` and of `examples/`: the engine's call and, where KISTROVU_CARD names it, the card
+//! The stored swatches of `swatches/` and of `examples/`: the engine's calls and, where KISTROVU_CARD names it, the card
 //! program, against the stored cards, byte for byte. The program is given very long texts too.
 
 use crate::card_comparison::shown;
@@ -17,9 +17,13 @@ pub fn program() -> Option<OsString> {
     env::var_os("KISTROVU_CARD")
 }
 
-pub fn by_call(tally: &mut Tally) -> Result<(), Difference> {
+pub fn by_calls(tally: &mut Tally) -> Result<(), Difference> {
     compare(kept()?, tally, |text| {
-        let answer = engine::print_card(&mut text.to_vec());
+        let card = engine::print_card(&mut text.to_vec());
+        let answer = match card.number {
+            0 => card,
+            ground => engine::print_ground(ground),
+        };
         let end = answer.bytes.len().min(answer.len as usize);
         Ok(answer.bytes[..end].to_vec())
     })

@@ -1,4 +1,5 @@
-//! The named groups of texts for the call behind the card program, each of which is one test.
+//! The named groups of texts for the call behind the card program, and of numbers for the lines of grounds, each of which
+//! is one test.
 
 use crate::card_shapes::SHAPES;
 use crate::damage::damage;
@@ -38,6 +39,10 @@ pub const TEXTS: [(&str, TextSource); 13] = [
     ("any bytes", Draw(any_bytes, 10)),
 ];
 
+/// The numbers that have a line, drawn ones in the same shares as texts.
+pub const GROUNDS: [(&str, fn(&mut Random, usize) -> Vec<u32>); 2] =
+    [("next to each limit", limits), ("any number", any_numbers)];
+
 impl TextSource {
     /// Hands each text on, until one is refused.
     pub fn each<E>(
@@ -51,6 +56,24 @@ impl TextSource {
             Draw(one, share) => (0..count * share / 1000).try_for_each(|_| visit(&one(random))),
         }
     }
+}
+
+/// Every ground, and numbers on both sides of where a digit more, or a bit more, is needed.
+fn limits(_: &mut Random, _: usize) -> Vec<u32> {
+    let tens = (0..10).map(|digits| u32::pow(10, digits));
+    let twos = (0..32).map(|bits| 1 << bits);
+    let around = |limit: u32| [limit - 1, limit, limit + 1];
+    let last = [u32::MAX - 1, u32::MAX, 4_294_000_000, 4_000_000_000];
+    (0..1000)
+        .chain(tens.chain(twos).flat_map(around))
+        .chain(last)
+        .collect()
+}
+
+/// As many digits as are drawn first.
+fn any_numbers(random: &mut Random, count: usize) -> Vec<u32> {
+    let one = |random: &mut Random| (random.bits() >> (32 + random.below(32))) as u32;
+    (0..count / 50).map(|_| one(random)).collect()
 }
 
 fn samples(_: &mut Random) -> Vec<Vec<u8>> {

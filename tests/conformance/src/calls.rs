@@ -23,6 +23,7 @@ pub enum Call {
         labels: Vec<u8>,
     },
     PrintCard(Vec<u8>),
+    PrintGround(u32),
 }
 
 /// What either call for modes is given.
@@ -111,6 +112,10 @@ pub fn engine(call: &Call) -> Answer {
             let a = lent(text, engine::print_card);
             printed_answer(a.number, a.len, &a.bytes)
         }
+        Call::PrintGround(ground) => {
+            let a = engine::print_ground(*ground);
+            printed_answer(a.number, a.len, &a.bytes)
+        }
     }
 }
 
@@ -156,6 +161,10 @@ pub fn reference(call: &Call) -> Answer {
         }
         Call::PrintCard(text) => {
             let a = second::print_card(text);
+            printed_answer(a.number, a.len, &a.bytes)
+        }
+        Call::PrintGround(ground) => {
+            let a = second::print_ground(*ground);
             printed_answer(a.number, a.len, &a.bytes)
         }
     }

@@ -1,7 +1,7 @@
 //! The files of the kit: each case run through both implementations, and written where they agree.
 
 use crate::calls::{engine, reference, Answer, Call};
-use crate::cases::{cards, fits, modes, pixels, texts, verdicts, Case};
+use crate::cases::{cards, fits, grounds, modes, pixels, texts, verdicts, Case};
 use crate::kept::{folder, FORMAT};
 use crate::writing::{numbers, quoted, rows, text};
 use std::fs;
@@ -50,6 +50,7 @@ fn planned() -> Result<Vec<Planned>, String> {
             "The card of a swatch as text.",
             texts::cases()?,
         ),
+        plan("print_ground", "The line of a ground.", grounds::cases()),
     ])
 }
 
@@ -124,6 +125,7 @@ fn given_lines(call: &Call) -> String {
                 + &numbers("labels", &wide(labels), 1)
         }
         Call::PrintCard(bytes) => text("text", bytes),
+        Call::PrintGround(ground) => one("ground", *ground),
     }
 }
 
@@ -153,17 +155,21 @@ fn answer_lines(call: &Call, answer: &Answer) -> Result<String, String> {
     Ok(lines)
 }
 
-/// The lines of a text that is stored with what is printed for it.
+/// The lines of a stored text. Its card is stored beside it; one that is turned down has none.
 fn kept_lines([text_file, printed_file]: &[String; 2], answer: &Answer) -> Result<String, String> {
     let len = answer[1].values[0] as usize;
-    let printed = narrow(before_zeros(&answer[2].values, len)?);
-    if fs::read(folder().join(printed_file)).ok() != Some(printed) {
+    let bytes = narrow(before_zeros(&answer[2].values, len)?);
+    let printed = if bytes.is_empty() {
+        text("printed", &bytes)
+    } else if fs::read(folder().join(printed_file)).ok() == Some(bytes) {
+        text("printed_file", printed_file.as_bytes())
+    } else {
         return Err(format!("{printed_file} is not what is printed"));
-    }
+    };
     Ok(text("text_file", text_file.as_bytes())
         + &numbers("number", &answer[0].values, 1)
         + &numbers("len", &answer[1].values, 1)
-        + &text("printed_file", printed_file.as_bytes()))
+        + &printed)
 }
 
 /// The first values; all that follow them must be zero.

@@ -7,7 +7,7 @@ use std::fs;
 use std::path::{Path, PathBuf};
 
 /// The version of the format.
-pub const FORMAT: i64 = 1;
+pub const FORMAT: i64 = 2;
 /// The figures of an entry.
 const ENTRY: usize = 8;
 /// The figures of a line of measures: a pixel, the number, and four measures.
@@ -59,6 +59,7 @@ fn from_record(name: &str, record: &Record) -> Result<Vec<Kept>, String> {
         "ring_modes" => vec![modes(&mut fields, Call::RingModes)?],
         "card" => vec![card(&mut fields)?],
         "print_card" => vec![print_card(&mut fields)?],
+        "print_ground" => vec![print_ground(&mut fields)?],
         _ => return Err(format!("no call is kept in {name}")),
     };
     fields.end()?;
@@ -138,27 +139,24 @@ fn card(fields: &mut Fields) -> Result<Pair, String> {
     Ok((call, answer))
 }
 
-/// Both texts stand in the record, or both in files of their own.
+/// Each of the two texts stands in the record, or in a file of its own.
 fn print_card(fields: &mut Fields) -> Result<Pair, String> {
-    let in_files = fields.next_is("text_file");
-    let text = if in_files {
-        fields.file("text_file")?
-    } else {
-        fields.list("text")?
-    };
+    let text = fields.bytes("text", "text_file")?;
+    Ok((Call::PrintCard(text), printed_answer(fields)?))
+}
+
+fn print_ground(fields: &mut Fields) -> Result<Pair, String> {
+    let ground = fields.one("ground")?;
+    Ok((Call::PrintGround(ground), printed_answer(fields)?))
+}
+
+fn printed_answer(fields: &mut Fields) -> Result<Answer, String> {
     let mut answer = fields.figures(&["number", "len"])?;
     let written = answer[1].values[0] as usize;
-    let printed: Vec<i64> = if in_files {
-        fields
-            .file("printed_file")?
-            .into_iter()
-            .map(i64::from)
-            .collect()
-    } else {
-        fields.list("printed")?
-    };
+    let printed = fields.bytes("printed", "printed_file")?;
+    let printed = printed.into_iter().map(i64::from).collect();
     answer.push(filled("printed", printed, written, MOST_PRINTED)?);
-    Ok((Call::PrintCard(text), answer))
+    Ok(answer)
 }
 
 fn figure(name: &'static str, values: Vec<i64>) -> Figure {
@@ -228,6 +226,15 @@ impl<'a> Fields<'a> {
     fn figures(&mut self, wanted: &[&'static str]) -> Result<Answer, String> {
         let one = |&name: &&'static str| Ok(figure(name, vec![self.one(name)?]));
         wanted.iter().map(one).collect()
+    }
+
+    /// The bytes of a text, or of the file in which it stands.
+    fn bytes(&mut self, inside: &str, in_file: &str) -> Result<Vec<u8>, String> {
+        if self.next_is(in_file) {
+            self.file(in_file)
+        } else {
+            self.list(inside)
+        }
     }
 
     /// The bytes of the file that is named, seen from the folder of the kit.

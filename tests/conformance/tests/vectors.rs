@@ -2,14 +2,14 @@
 
 use conformance::calls::{engine, reference, Answer, Call};
 use conformance::files::made;
-use conformance::kept::{cases, folder};
+use conformance::kept::{cases, folder, FORMAT};
 use std::collections::BTreeMap;
 use std::fs;
 
 /// A file, the least number of its cases, and the least for each number that its call can give.
 type Least = (&'static str, usize, &'static [(i64, usize)]);
 
-const LEAST: [Least; 7] = [
+const LEAST: [Least; 8] = [
     ("measures", 1300, &[(0, 1300)]),
     ("fit", 300, &[(0, 250), (6, 12), (7, 24)]),
     ("verdict", 500, &[(0, 450), (6, 16), (7, 30), (8, 14)]),
@@ -33,6 +33,7 @@ const LEAST: [Least; 7] = [
         300,
         &[(0, 70), (1, 60), (2, 20), (3, 120), (11, 3)],
     ),
+    ("print_ground", 50, &[(0, 50)]),
 ];
 /// The most bytes of a file, so that it can be read.
 const MOST_BYTES: usize = 300_000;
@@ -189,7 +190,7 @@ fn every_altered_figure_is_noticed() {
                 .collect();
             // A record of measures has a case in each line.
             let count = if name == "measures" { lines.len() } else { 1 };
-            let header = format!("format 1\ncall \"kistrovu_{name}\"\ncases {count}\n\n");
+            let header = format!("format {FORMAT}\ncall \"kistrovu_{name}\"\ncases {count}\n\n");
             check(name, &format!("{header}{}\n", lines.join("\n")), engine).expect(record);
             for place in 0..lines.len() {
                 let word = lines[place].split(' ').next().expect("a line has a name");

@@ -15,7 +15,7 @@ pub struct Grounds {
 }
 
 /// The definition of each call's number. Those of a call that no ground concerns have none.
-const NUMBERS: [(&str, Option<&str>); 8] = [
+const NUMBERS: [(&str, Option<&str>); 9] = [
     ("kistrovu_version", None),
     ("kistrovu_measures", None),
     ("kistrovu_fit", Some("fitNumber")),
@@ -24,6 +24,7 @@ const NUMBERS: [(&str, Option<&str>); 8] = [
     ("kistrovu_ring_modes", Some("modesNumber")),
     ("kistrovu_card", Some("cardNumber")),
     ("kistrovu_print_card", Some("textNumber")),
+    ("kistrovu_print_ground", None),
 ];
 
 impl Grounds {

@@ -86,6 +86,11 @@ fn wrong_calls_are_refused() {
             "is_kistrovu_print_card",
         ),
         (
+            "kistrovu_print_ground(uint32_t number",
+            "kistrovu_print_ground(uint8_t number",
+            "is_kistrovu_print_ground",
+        ),
+        (
             "uint8_t *labels",
             "const uint8_t *labels",
             "is_kistrovu_card",

@@ -83,6 +83,11 @@ fn wrong_calls_are_refused() {
             "kistrovu_print_card(text: *mut u8",
             "raw::kistrovu_print_card",
         ),
+        (
+            "kistrovu_print_ground(number: u32)",
+            "kistrovu_print_ground(number: u64)",
+            "raw::kistrovu_print_ground",
+        ),
         ("labels: *mut u8", "labels: *const u8", "raw::kistrovu_card"),
         (
             "kistrovu_fit(histogram: *const u32, bins: usize, rising: bool)",

@@ -57,3 +57,8 @@ pub fn print_card(text: &mut [u8]) -> Printed {
     // SAFETY: pointer and length are those of one slice, lent for the time of the call.
     unsafe { raw::kistrovu_print_card(text.as_mut_ptr(), text.len()) }
 }
+
+pub fn print_ground(number: u32) -> Printed {
+    // SAFETY: the call takes and hands back plain numbers.
+    unsafe { raw::kistrovu_print_ground(number) }
+}

@@ -51,7 +51,7 @@ pub struct CardAnswer {
     pub entries: [Entry; MOST_ENTRIES],
 }
 
-/// The first `len` bytes are what the card program prints.
+/// The first `len` bytes are to be printed.
 #[derive(Clone, Copy, Debug, PartialEq, Eq)]
 pub struct PrintedAnswer {
     pub number: u32,
@@ -153,7 +153,7 @@ pub fn card(bytes: &[u8], closeness: u32, labels: &mut [u8]) -> CardAnswer {
     answer
 }
 
-/// What the card program prints for the text of a swatch.
+/// The card of a swatch, both as text.
 pub fn print_card(text: &[u8]) -> PrintedAnswer {
     let outcome = swatches::read(text).and_then(|pixels| {
         let bytes = pixels.concat();
@@ -166,8 +166,18 @@ pub fn print_card(text: &[u8]) -> PrintedAnswer {
             Err(card.number)
         }
     });
-    let number = outcome.as_ref().err().copied().unwrap_or(0);
-    let printed = outcome.unwrap_or_else(swatches::printed_number);
+    match outcome {
+        Ok(card) => printed_answer(0, &card),
+        Err(number) => printed_answer(number, ""),
+    }
+}
+
+/// The line that the card program prints for a swatch that is turned down.
+pub fn print_ground(number: u32) -> PrintedAnswer {
+    printed_answer(0, &swatches::printed_number(number))
+}
+
+fn printed_answer(number: u32, printed: &str) -> PrintedAnswer {
     let mut answer = PrintedAnswer {
         number,
         len: printed.len() as u32,
@@ -175,6 +185,15 @@ pub fn print_card(text: &[u8]) -> PrintedAnswer {
     };
     answer.bytes[..printed.len()].copy_from_slice(printed.as_bytes());
     answer
+}
+
+/// What the card program prints for a text: the card, or the line of the ground on which it is turned down.
+pub fn program(text: &[u8]) -> PrintedAnswer {
+    let card = print_card(text);
+    match card.number {
+        0 => card,
+        ground => print_ground(ground),
+    }
 }
 
 /// The number of the first ground before 11 that holds, 0 when none does.

@@ -84,9 +84,10 @@ pub fn printed_card(entries: &[Entry], pixels: usize, closeness: u32) -> String 
     text
 }
 
-/// What is printed for a swatch that is turned down.
+/// What is printed for a swatch that is turned down: of a number that is too long for its columns the last digits.
 pub fn printed_number(number: u32) -> String {
-    printed_line(&[u64::from(number)], PRINTED_COLUMNS)
+    let line = printed_line(&[u64::from(number)], PRINTED_COLUMNS);
+    line[line.len() - PRINTED_COLUMNS - 1..].to_string()
 }
 
 fn printed_line(figures: &[u64], columns: usize) -> String {

@@ -86,8 +86,7 @@ fn the_first_ground_counts() {
     assert_eq!(labels, [7, 8, 9]);
 }
 
-fn printed(text: &[u8]) -> (u32, String) {
-    let answer = print_card(text);
+fn printed(answer: PrintedAnswer) -> (u32, String) {
     let len = answer.len as usize;
     assert!(answer.bytes[len..].iter().all(|&byte| byte == 0));
     let printed = String::from_utf8_lossy(&answer.bytes[..len]);
@@ -100,11 +99,12 @@ fn black_beside_red_is_printed_as_given() {
     let expected = "     2     2     0\n\
         \x20    0     0     0     0     0     0     0     1\n\
         \x20    1     0     0     0   255     0     0     1\n";
-    assert_eq!(printed(text), (0, expected.to_string()));
+    assert_eq!(printed(print_card(text)), (0, expected.to_string()));
+    assert_eq!(program(text), print_card(text));
 }
 
 #[test]
-fn a_text_turned_down_prints_its_number() {
+fn for_a_text_turned_down_the_program_prints_the_number() {
     let cases: [(&[u8], u32); 4] = [
         (b"", 1),
         (b"     2     1", 1),
@@ -112,7 +112,25 @@ fn a_text_turned_down_prints_its_number() {
         (b"     2     1\n   0   0   0\n", 3),
     ];
     for (text, number) in cases {
-        assert_eq!(printed(text), (number, format!("{number:6}\n")));
+        assert_eq!(printed(print_card(text)), (number, String::new()));
+        assert_eq!(printed(program(text)), (0, format!("{number:6}\n")));
+    }
+}
+
+#[test]
+fn a_ground_has_six_columns_and_a_line_feed() {
+    for (number, line) in [
+        (0, "     0\n"),
+        (9, "     9\n"),
+        (10, "    10\n"),
+        (99_999, " 99999\n"),
+        (100_000, "100000\n"),
+        (999_999, "999999\n"),
+        (1_000_000, "000000\n"),
+        (1_000_010, "000010\n"),
+        (u32::MAX, "967295\n"),
+    ] {
+        assert_eq!(printed(print_ground(number)), (0, line.to_string()));
     }
 }
 

@@ -1,69 +1,70 @@
 -- `main` is safe and ends: what is printed has room in its places. Assumes nothing.
-use Prim.Native.Nat.{ℕ, _-_, _≤_}
-use mathlib.Core.Path.{_≡_, sym, ap}
-use mathlib.Core.List.{List}
+use Prim.Native.Nat.{ℕ, _-_}
+use mathlib.Core.List.{List, [], _∷_}
 use native.Mathlib.Omega.{arith}
+use lib.Dec.{eqb}
 use lib.ListN.{length, replicate, length-append}
-use lib.Seq.{length-take-le}
 use Rattle.lists.specs.Lists.{padded}
-use Rattle.swatch.specs.Output.{printedMost}
-use Rattle.kistrovu.specs.declared.Printed.{Printed}
-use Rattle.kistrovu.specs.Answers.{printed, printedAnswer}
+use Rattle.lists.proofs.Cases.{by-cond}
+use Rattle.swatch.specs.Output.{printedLine, printedMost}
+use Rattle.kistrovu.specs.Grounds.{textNumber}
+use Rattle.kistrovu.specs.Answers.{printed, printedBytes, printedAnswer, groundAnswer}
+use Rattle.card.specs.Program.{programAnswer, HasRoom}
 use borrow.Author.Needs.{needs}
 use Rattle.card.proofs.main.Statement.{statement}
 use Rattle.card.proofs.main.Tie as tie
 
-room : (text : List ℕ) (r : Printed) → r ≡ printedAnswer text → r .len ≤ length (r .bytes)
-unfolding printedAnswer padded
-room text r e =
-    let xs = printed text in
-    let len : r .len ≡ length xs = ap (λ (p : Printed). p .len) e in
-    let bytes : length (r .bytes) ≡ length (padded printedMost 0 xs) = ap (λ (p : Printed). length (p .bytes)) e in
-    omega (arith, len, bytes, length-append xs (replicate (printedMost - length xs) 0))
+bytes-room : (number : ℕ) (xs : List ℕ) → HasRoom (printedBytes number xs)
+unfolding padded
+bytes-room number xs = omega (arith, length-append xs (replicate (printedMost - length xs) 0))
 
-slice-aggregate-read-full : tie.Need-slice-aggregate-read-full
-slice-aggregate-read-full c = search needs
+answer-room : (text : List ℕ) → HasRoom (programAnswer text)
+unfolding programAnswer printedAnswer groundAnswer
+answer-room text =
+    let number = textNumber text in
+    by-cond HasRoom (eqb number 0) (printedAnswer text) (groundAnswer number) (λ q. bytes-room number (printed text)) (λ q. bytes-room 0 (printedLine (number ∷ [])))
 
-read-full-requires : tie.Need-read-full-requires
-read-full-requires c κs = search needs
+slice-aggregate-read-text : tie.Need-slice-aggregate-read-text
+slice-aggregate-read-text c = search needs
+
+read-text-requires : tie.Need-read-text-requires
+read-text-requires c κs = search needs
+
+slice-aggregate-fail : tie.Need-slice-aggregate-fail
+slice-aggregate-fail c = search needs
+
+fail-requires : tie.Need-fail-requires
+fail-requires c κs = search needs
+
+returns : tie.Need-returns
+returns c = search needs
 
 array-share-prefix-text : tie.Need-array-share-prefix-text
 array-share-prefix-text c = search needs
 
-slice-aggregate-kistrovu-print-card : tie.Need-slice-aggregate-kistrovu-print-card
-slice-aggregate-kistrovu-print-card c = search needs
+slice-aggregate-answer : tie.Need-slice-aggregate-answer
+slice-aggregate-answer c = search needs
 
-kistrovu-print-card-requires : tie.Need-kistrovu-print-card-requires
-kistrovu-print-card-requires c κs = search needs
+answer-requires : tie.Need-answer-requires
+answer-requires c κs = search needs
 
-cast-len : tie.Need-cast-len
-cast-len c = search needs
+write-requires : tie.Need-write-requires
+write-requires c κs = rw (c .answer .ensures) (answer-room _)
 
-array-share-prefix-bytes : tie.Need-array-share-prefix-bytes
-array-share-prefix-bytes c = room _ _ (c .before .before .kistrovu-print-card .ensures .0)
-
-slice-aggregate-write-all : tie.Need-slice-aggregate-write-all
-slice-aggregate-write-all c =
-    let r = c .before .before .before .kistrovu-print-card in
-    sym (length-take-le (r .result .len) (r .result .bytes) (room _ _ (r .ensures .0)))
-
-write-all-requires : tie.Need-write-all-requires
-write-all-requires c κs = search needs
-
-returns : tie.Need-returns
-returns c = search needs
+returns-2 : tie.Need-returns-2
+returns-2 c = search needs
 
 pub main-spec : {M : Type 1} → statement M
 main-spec =
     tie.close
     (tie.spec
-    slice-aggregate-read-full
-    read-full-requires
+    slice-aggregate-read-text
+    read-text-requires
+    slice-aggregate-fail
+    fail-requires
+    returns
     array-share-prefix-text
-    slice-aggregate-kistrovu-print-card
-    kistrovu-print-card-requires
-    cast-len
-    array-share-prefix-bytes
-    slice-aggregate-write-all
-    write-all-requires
-    returns)
+    slice-aggregate-answer
+    answer-requires
+    write-requires
+    returns-2)

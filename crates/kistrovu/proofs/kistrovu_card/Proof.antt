@@ -7,7 +7,24 @@ use Rattle.lists.specs.Lists.{padded}
 use Rattle.making.specs.declared.CardEntries.{CardEntries}
 use Rattle.palette.specs.Cards.{pixelsOf, entries, mostEntries, noEntry}
 use Rattle.kistrovu.specs.Grounds.{cardNumber}
-use Rattle.kistrovu.proofs.Cards.{made, card-turned-down, asked-none, card-refused, labels-as-lent, card-served, labels-served, many-number, few-number, many-entries, few-entries, many-left, few-left, total-is, card-sound}
+use Rattle.kistrovu.proofs.Cards.{
+  made,
+  card-turned-down,
+  asked-none,
+  card-refused,
+  labels-as-lent,
+  card-served,
+  labels-served,
+  many-number,
+  few-number,
+  many-entries,
+  few-entries,
+  many-left,
+  few-left,
+  total-is,
+  card-sound,
+  handed-sound,
+}
 use borrow.Author.Needs.{needs}
 use Rattle.kistrovu.proofs.kistrovu_card.Statement.{statement}
 use Rattle.kistrovu.proofs.kistrovu_card.Tie as tie
@@ -85,7 +102,7 @@ returns-3 c =
     let byte : (j : ℕ) → getD bytes j 0 < 256 = λ j. let known = c .before .before .before .before .before .before .before .before .before .before .shared-slice-known .given j in omega arith in (
       ap (made 0 (r .result .total)) es ∙ ap (λ (k : ℕ). made 0 k (padded mostEntries noEntry (entries e (pixelsOf bytes)))) is ∙ card-served e bytes lent 0 n refl,
       ls ∙ labels-served e bytes lent 0 n refl,
-      λ z. card-sound e bytes (length lent) byte (asked-none e bytes (length lent) none),
+      λ z. rw (is, es, ls) (handed-sound e bytes (card-sound e bytes (length lent) byte (asked-none e bytes (length lent) none))),
     )
 
 pub kistrovu-card-spec : {M : Type 1} → statement M

@@ -29,7 +29,7 @@ returns-2 c =
     let n = c .before .before .before .before .before .modes-number in
     let z = c .before .before .before .before .if1 .left in
     let f = c .before .before .ring-separators in
-    (ring-served (s .args .closeness) (s .args .histogram .now) (s .args .separators .now) _ (n .ensures) z _ (f .ensures .0), ring-listed (s .args .closeness) (s .args .histogram .now) (s .args .separators .now) _ (n .ensures) z _ (f .ensures .1), λ u. ring-finished (s .args .closeness) (s .args .histogram .now) (s .args .separators .now) _ (n .ensures) z)
+    (ring-served (s .args .closeness) (s .args .histogram .now) (s .args .separators .now) _ (n .ensures) z _ (f .ensures .0), ring-listed (s .args .closeness) (s .args .histogram .now) (s .args .separators .now) _ (n .ensures) z _ _ (f .ensures .0) (f .ensures .1), λ u. ring-finished (s .args .closeness) (s .args .histogram .now) (s .args .separators .now) _ (n .ensures) z)
 
 pub kistrovu-ring-modes-spec : {M : Type 1} → statement M
 kistrovu-ring-modes-spec =

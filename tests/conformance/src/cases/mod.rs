@@ -2,6 +2,7 @@
 
 pub mod cards;
 pub mod fits;
+pub mod grounds;
 pub mod histograms;
 pub mod modes;
 pub mod pixels;

@@ -7,7 +7,7 @@ use Rattle.swatch.specs.Input.{sizeOf}
 use Rattle.swatch.specs.declared.Reading.{Reading}
 use Rattle.swatch.specs.Reading.{swatchNumber, readingOf}
 use Rattle.swatch.proofs.Numbers.{reading-served}
-use Rattle.kistrovu.proofs.Texts.{swatch-number-le, swatch-few, text-refused, text-made}
+use Rattle.kistrovu.proofs.Texts.{swatch-few, text-refused, text-made}
 use borrow.Author.Needs.{needs}
 use Rattle.kistrovu.proofs.printing.print_in.Statement.{statement}
 use Rattle.kistrovu.proofs.printing.print_in.Tie as tie
@@ -15,32 +15,17 @@ use Rattle.kistrovu.proofs.printing.print_in.Tie as tie
 read-requires : tie.Need-read-requires
 read-requires c κs = search needs
 
-refuse-requires : tie.Need-refuse-requires
-unfolding readingOf
-refuse-requires c κs =
-    let a = c .before .before .before .before .before .before .before .before .before .before .before .args in
-    let p = c .before .before .before .before .before .before .before .before .before .before .before .pre in
-    let r = c .before .before .before .before .before .read in
-    let text = a .text .now in
-    let number : r .result .number ≡ swatchNumber text = ap (λ (x : Reading). x .number) (r .ensures .0) in
-    (omega (arith, number, swatch-number-le text), p .2)
-
 same-length : tie.Need-same-length
 same-length c = search needs
-
-same-length-2 : tie.Need-same-length-2
-same-length-2 c = search needs
 
 returns : tie.Need-returns
 unfolding readingOf
 returns c =
-    let a = c .before .before .before .before .before .before .before .before .before .before .before .before .before .before .args in
-    let p = c .before .before .before .before .before .before .before .before .before .before .before .before .before .before .pre in
-    let r = c .before .before .before .before .before .before .before .before .read in
+    let a = c .before .before .before .before .before .before .before .before .before .before .args in
+    let r = c .before .before .before .before .read in
     let text = a .text .now in
     let number : r .result .number ≡ swatchNumber text = ap (λ (x : Reading). x .number) (r .ensures .0) in
-    let some = c .before .before .before .before .if1 .taken in
-    text-refused text (a .out .now) _ _ (λ z. some (number ∙ z)) (rw number at (c .before .before .refuse .ensures))
+    text-refused text (a .out .now) (r .result .number) number (c .if1 .taken)
 
 cast-n : tie.Need-cast-n
 cast-n c = search needs
@@ -115,14 +100,14 @@ print-pixels-requires c κs =
     let y = length-take-le (r .result .pixels) (a .labels .now) (omega (arith, pixels, few, p .1)) in
     (x ∙ ap (λ (k : ℕ). 3 * k) (sym y), omega (arith, y, pixels, few), p .2)
 
+same-length-2 : tie.Need-same-length-2
+same-length-2 c = search needs
+
 same-length-3 : tie.Need-same-length-3
 same-length-3 c = search needs
 
 same-length-4 : tie.Need-same-length-4
 same-length-4 c = search needs
-
-same-length-5 : tie.Need-same-length-5
-same-length-5 c = search needs
 
 returns-2 : tie.Need-returns-2
 unfolding readingOf
@@ -139,9 +124,7 @@ print-in-spec =
     tie.close
     (tie.spec
     read-requires
-    refuse-requires
     same-length
-    same-length-2
     returns
     cast-n
     mul-size
@@ -150,7 +133,7 @@ print-in-spec =
     slice-relend-prefix-print-pixels
     slice-aggregate-print-pixels-2
     print-pixels-requires
+    same-length-2
     same-length-3
     same-length-4
-    same-length-5
     returns-2)

@@ -32,31 +32,24 @@ make-card-requires c κs =
 cast-if1 : tie.Need-cast-if1
 cast-if1 c = search needs
 
-refuse-requires : tie.Need-refuse-requires
-refuse-requires c κs = search needs
-
 same-length : tie.Need-same-length
 same-length c = search needs
 
-same-length-2 : tie.Need-same-length-2
-same-length-2 c = search needs
-
 returns : tie.Need-returns
-unfolding programCloseness mostEntries mostPixels mostSwatchPixels
+unfolding programCloseness mostEntries mostPixels mostSwatchPixels over
 returns c =
-    let a = c .before .before .before .before .before .before .before .before .before .before .before .before .before .before .args in
-    let p = c .before .before .before .before .before .before .before .before .before .before .before .before .before .before .pre in
-    let r = c .before .before .before .before .before .before .before .before .before .make-card in
+    let a = c .before .before .before .before .before .before .before .before .before .before .args in
+    let p = c .before .before .before .before .before .before .before .before .before .before .pre in
+    let r = c .before .before .before .before .before .make-card in
     let bytes = a .pixels .now in
     let ps = pixelsOf bytes in
     let es = entries 0 ps in
     let is : r .result .total ≡ length es = ap (λ (m : CardEntries). m .total) (r .ensures .0) ∙ total-is 0 ps in
     let long = pixels-length bytes (length (a .labels .now)) (p .0) in
-    let byte : (j : ℕ) → getD bytes j 0 < 256 = λ j. let known = c .before .before .before .before .before .before .before .before .before .before .before .before .before .shared-slice-known .given j in omega arith in
+    let byte : (j : ℕ) → getD bytes j 0 < 256 = λ j. let known = c .before .before .before .before .before .before .before .before .before .shared-slice-known .given j in omega arith in
     let sound = always-sound 0 ps (omega (arith, long, p .1)) (λ i l. pixels-bytes bytes byte i) in
-    let f = c .before .before .refuse .ensures in
     let many = lt-ltb 255 (length es) (omega (arith, is)) in
-    (rw many (record { numbered = f .numbered; long = f .long; written = f .written }), sound)
+    (rw many (record { numbered = refl; long = refl; written = refl }), sound)
 
 cast-print-card : tie.Need-cast-print-card
 cast-print-card c = search needs
@@ -69,9 +62,9 @@ print-card-requires : tie.Need-print-card-requires
 unfolding mostEntries
 print-card-requires c κs = (omega arith, c .before .before .before .before .before .before .before .before .before .before .before .before .pre .2)
 
-cast-t17 : tie.Need-cast-t17
+cast-t15 : tie.Need-cast-t15
 unfolding programCloseness mostEntries printedMost
-cast-t17 c =
+cast-t15 c =
     let w = c .before .before .print-card in
     let a = c .before .before .before .before .before .before .before .before .before .before .before .before .before .before .before .args in
     let m = c .before .before .before .before .before .before .before .before .before .before .make-card in
@@ -80,11 +73,11 @@ cast-t17 c =
     let many : length (take (m .result .total) (m .result .entries)) ≤ 255 = rw held (omega (arith, ap (λ (x : CardEntries). x .total) (m .ensures .0) ∙ total-is 0 ps)) in
     omega (arith, w .ensures .1, printed-fits (length (a .labels .now)) 0 (take (m .result .total) (m .result .entries)) many)
 
+same-length-2 : tie.Need-same-length-2
+same-length-2 c = search needs
+
 same-length-3 : tie.Need-same-length-3
 same-length-3 c = search needs
-
-same-length-4 : tie.Need-same-length-4
-same-length-4 c = search needs
 
 returns-2 : tie.Need-returns-2
 unfolding programCloseness mostEntries mostPixels mostSwatchPixels
@@ -118,14 +111,12 @@ print-pixels-spec =
     (tie.spec
     make-card-requires
     cast-if1
-    refuse-requires
     same-length
-    same-length-2
     returns
     cast-print-card
     cast-print-card-2
     print-card-requires
-    cast-t17
+    cast-t15
+    same-length-2
     same-length-3
-    same-length-4
     returns-2)
