@@ -1,5 +1,5 @@
 // The test of a stretch of bins: how far its parts are from a monotone fit, and whether that is too far.
-// One closeness, one direction, one stretch; `judge` gives its verdict.
+// `judge` gives the verdict of one stretch in one direction at one closeness.
 mod costs;
 mod parts;
 mod signed;
