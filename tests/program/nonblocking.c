@@ -1,4 +1,4 @@
-/* Makes standard input non-blocking, and becomes the program that the arguments name. */
+/* Makes standard input non-blocking, and then runs the program that the arguments name in its place. */
 #include <fcntl.h>
 #include <stdio.h>
 #include <unistd.h>

@@ -1,5 +1,5 @@
-//! Lists that are lent: a call that is turned down leaves them as they were; one that is served writes only the labels or
-//! the first places. And the calls that are lent no list give the same answers.
+//! Lists that are lent: a call that is turned down leaves them as they were; one that is served writes nothing but the
+//! labels or the first places. And the calls that are lent no list give the same answers.
 
 mod common;
 

@@ -15,7 +15,7 @@ pub data Direction : Type 0 where
   increasing : Direction
   decreasing : Direction
 
--- A1: the direction that a call is told
+-- A1: the direction that a call is given
 abbrev pub direction : (rising : Bool) → Direction
 direction true = increasing
 direction false = decreasing

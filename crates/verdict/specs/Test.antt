@@ -75,7 +75,7 @@ largestWeight h bs = largest (length h - 1) (λ j. largest j (λ i. partWeight h
 unfoldable pub cost : Closeness → Direction → List ℕ → ℤ
 cost e w h = largestWeight h (blocks w h) -ℤ pos (bar e (length h))
 
--- T6: a stretch of one bin is never rejected
+-- T6: one bin alone is never rejected
 unfoldable pub rejected : Closeness → Direction → List ℕ → Bool
 rejected e w h = leb 2 (length h) && leZ (pos 0) (cost e w h)
 
