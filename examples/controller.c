@@ -4,8 +4,8 @@
  *     cc -std=c11 controller.c $(pkg-config --cflags --libs kistrovu) -o controller
  *     ./controller [-l] [FILE]                          without a FILE it reads standard input
  *
- * What it writes without -l is what the program card writes. The exit status is the answer's number: 0 when the swatch is
- * served, else the ground on which it is turned down, and then a sentence goes to standard error.
+ * Without -l it writes what the program card writes. The exit status is the answer's number: 0 if the swatch is served,
+ * else the ground on which it is turned down; then a sentence goes to standard error.
  */
 #include <kistrovu.h>
 
@@ -13,7 +13,7 @@
 #include <stdio.h>
 #include <string.h>
 
-/* Exit statuses that are no ground. */
+/* Exit statuses that are not grounds. */
 enum { WRONG_USE = 64, WRONG_LIBRARY = 70, NOT_READ_OR_WRITTEN = 74 };
 
 /* The columns of a swatch. A line is 12 characters and a line feed: two fields in the header, three for a pixel. */
@@ -23,12 +23,12 @@ enum { LINE = 13, HEADER_FIELD = 6, PIXEL_FIELD = 4 };
  * says so from these bytes alone. */
 #define TEXT_BYTES (KISTROVU_MOST_TEXT + 1)
 
-/* The buffers have a fixed size and stand outside the stack, of which a call takes up to 591 KB. */
+/* The buffers have a fixed size and are not on the stack, of which a call takes up to 591 KB. */
 static uint8_t text[TEXT_BYTES];
 static uint8_t pixels[3 * KISTROVU_MOST_SWATCH_PIXELS];
 static uint8_t labels[KISTROVU_MOST_SWATCH_PIXELS];
 
-/* What to tell an operator. A text can be turned down with 1, 2, 3 or 11; the others are slips of a program's own. */
+/* What to tell an operator. A text can be turned down with 1, 2, 3 or 11; the others are mistakes in the program itself. */
 static const char *const sentences[] = {
     [KISTROVU_SERVED] = "served",
     [KISTROVU_HEADER] = "the first line of the swatch is not a header of two fields",
@@ -50,7 +50,7 @@ static int complain(int status, const char *what, const char *why)
     return status;
 }
 
-/* Reads a file, or standard input where no name is given. */
+/* Reads a file, or standard input if no name is given. */
 static int read_text(const char *name, size_t *bytes)
 {
     FILE *file = name == NULL ? stdin : fopen(name, "rb");
@@ -88,7 +88,7 @@ static void write_labels(size_t width, size_t count)
         printf("%4u%s", (unsigned)labels[i], (i + 1) % width == 0 ? "\n" : "");
 }
 
-/* Has each pixel of a served text labelled with the number of its entry, and writes a line of labels for each row. */
+/* Labels each pixel of a served text with the number of its entry, and writes a line of labels for each row. */
 static int label_rows(const struct kistrovu_printed *printed)
 {
     size_t width = field(text, HEADER_FIELD);

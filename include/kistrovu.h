@@ -2,7 +2,7 @@
  * Kistrovu: the card of a scanned cloth.
  *
  * A card is the palette of a cloth: the greys and colours found in it, how many pixels each accounts for, and which
- * pixel belongs where. Black beside red, which has two entries of one pixel each:
+ * pixel belongs where. For example, black beside red, whose card has two entries of one pixel each:
  *
  *     const uint8_t pixels[] = {0, 0, 0, 255, 0, 0};
  *     uint8_t labels[2];
@@ -14,30 +14,31 @@
  *         printf("%u of %u %u %u\n", entry->count, entry->red, entry->green, entry->blue);
  *     }
  *
- * Link libkistrovu.a (`rt staticlib kistrovu` makes it for x86-64, tools/install installs it; then `pkg-config --cflags
- * --libs kistrovu`). Of the C library it needs memcpy and memset. examples/controller.c is a whole program.
+ * Link libkistrovu.a: `rt staticlib kistrovu` makes it for x86-64, tools/install installs it, and then `pkg-config
+ * --cflags --libs kistrovu` gives the flags. From the C library it needs memcpy and memset. examples/controller.c is a
+ * whole program.
  *
- * Every call is served or turned down. Its answer has a number: 0 when it is served, else the ground on which it is
+ * Every call is served or turned down. Its answer has a number: 0 if it is served, otherwise the ground on which it is
  * turned down (enum kistrovu_ground). A call tests the grounds that concern it in the order of their numbers, and the
- * first that holds is its number. A turned-down answer is safe to read and to pass on: every other figure of it is zero,
- * and every lent buffer is as it was, so that what an earlier call has left there still holds. The same arguments always
- * get the same answer; there is nothing to set up, to free or to try again. No call asks anything of its caller but what C
- * cannot check:
+ * first that holds is its number. If a call is turned down, its answer is safe to read and to pass on: every other figure
+ * in it is zero. Every lent buffer is left as it was, so what an earlier call wrote there is still valid. The same
+ * arguments always get the same answer; there is nothing to set up, to free or to try again. The caller is responsible
+ * only for what C cannot check:
  *
- *   - a pointer and a length name that many readable places, and writable ones where the pointer is not const;
- *     a pointer is aligned for its type and not null, also where the length is 0;
+ *   - a pointer and a length stand for that many readable places, writable too if the pointer is not const;
+ *     a pointer is aligned for its type and not null, even if the length is 0;
  *   - a buffer that is written does not overlap another argument;
  *   - a bool is 0 or 1.
  *
- * No call uses the heap, keeps state or touches anything but its arguments, so calls may run on any threads at once.
+ * No call uses the heap, keeps state or touches anything but its arguments, so calls may run on many threads at once.
  * Stack: kistrovu_card takes 510 KB, kistrovu_print_card 591 KB, whatever the image; every other call takes less
- * than 32 KB. The answer, which is handed back by value, has its room with the caller; its size is given below. Give a
- * thread that makes cards 1 MB.
+ * than 32 KB. The answer is handed back by value, in memory of the caller; its size is given below. Give a thread that
+ * makes cards 1 MB.
  *
- * In C++ a call hides the struct of its name, so write `struct kistrovu_card card`, as in C.
+ * In C++ a call hides the struct of the same name, so write `struct kistrovu_card card`, as in C.
  *
- * The promises are proved of the source and stated in crates/kistrovu/src/lib.rt. This header is written by hand and not
- * covered by the proof; a test holds it against the source (tests/declarations).
+ * The promises are stated in crates/kistrovu/src/lib.rt and proved for the source. This header is written by hand and not
+ * covered by the proof; a test compares it with the source (tests/declarations).
  */
 #ifndef KISTROVU_H
 #define KISTROVU_H
@@ -50,8 +51,8 @@
 extern "C" {
 #endif
 
-/* ---- the version of this header and, from the call, of the library: a program whose two differ was linked to another
- * release. Major: a declaration, a number or a figure's meaning changed. Minor: something was added. */
+/* ---- the version of this header and, from the call, that of the library. If the two differ, the program was linked with
+ * another release. Major: a declaration, a number or a figure's meaning changed. Minor: something was added. */
 
 #define KISTROVU_VERSION_MAJOR 2
 #define KISTROVU_VERSION_MINOR 0
@@ -101,9 +102,9 @@ struct kistrovu_measures_answer { /* 8 bytes */
 
 struct kistrovu_measures_answer kistrovu_measures(uint8_t red, uint8_t green, uint8_t blue);
 
-/* ---- the monotone fit of a histogram, increasing where rising is true, else decreasing. Grounds 6, 7
- * Bin i lies in a block of sum sums[i] and length lengths[i], so that the fit has sums[i] / lengths[i] there; places past
- * the last bin are zero. */
+/* ---- the monotone fit of a histogram, increasing if rising is true, else decreasing. Grounds 6, 7
+ * Bin i lies in a block of sum sums[i] and length lengths[i], so the value of the fit there is sums[i] / lengths[i];
+ * places past the last bin are zero. */
 
 struct kistrovu_fit_answer { /* 2,052 bytes */
     uint32_t number;
@@ -114,8 +115,8 @@ struct kistrovu_fit_answer { /* 2,052 bytes */
 struct kistrovu_fit_answer kistrovu_fit(const uint32_t *histogram, size_t bins, bool rising);
 
 /* ---- the verdict: whether a histogram is too far from the monotone fit. Grounds 6, 7, 8
- * The cost is in units of 1/16,777,216 of a bit and may be negative; the histogram is rejected when it is 0 or more. Each
- * step of the closeness takes one bit off the cost, so a larger one rejects less, and modes join more readily. */
+ * The cost is in units of 1/16,777,216 of a bit and may be negative; the histogram is rejected if the cost is 0 or more.
+ * Each step of closeness takes one bit off the cost, so a larger closeness rejects less, and modes join more readily. */
 
 struct kistrovu_verdict {
     int64_t cost;
@@ -130,10 +131,10 @@ struct kistrovu_verdict_answer { /* 24 bytes */
 struct kistrovu_verdict_answer kistrovu_verdict(const uint32_t *histogram, size_t bins, bool rising, uint32_t closeness);
 
 /* ---- the modes of a line of bins, and of a ring, whose last bin is beside its first. Grounds 6, 7, 8, 10
- * The separators stand in the first places of the list, and the answer says how many there are; the other places stay
- * as they were. A mode runs from its separator to the bin before the next. A line's separators rise and end with its last
- * bin, which belongs to the last mode: one mode fewer than separators. A ring has as many modes as separators, and the
- * order in which they are listed is open. */
+ * The separators are in the first places of the list, and the answer says how many there are; the other places stay as
+ * they were. A mode runs from its separator to the bin before the next one. A line's separators rise and end with its last
+ * bin, which belongs to the last mode, so there is one mode fewer than separators. A ring has as many modes as separators,
+ * which may be listed in any order. */
 
 struct kistrovu_modes_answer { /* 8 bytes */
     uint32_t number;
@@ -146,7 +147,7 @@ struct kistrovu_modes_answer kistrovu_ring_modes(const uint32_t *histogram, size
                                                  uint32_t *separators, size_t places);
 
 /* ---- the card of an image. Grounds 4, 5, 8, 9, 11
- * An image is R, G, B for each pixel, three bytes. Each pixel's label is the number of its entry from 0 on, one byte, and
+ * An image has three bytes for each pixel: R, G, B. A pixel's label is one byte, the number of its entry, counted from 0;
  * there are as many labels as pixels. The first len places of entries hold the card: greys by mode, then colours by hue,
  * saturation and intensity mode. The rest are zero. */
 
@@ -155,7 +156,7 @@ struct kistrovu_entry {
     uint8_t hue;  /* the numbers of its modes; hue and saturation are 0 for a grey */
     uint8_t saturation;
     uint8_t intensity;
-    uint8_t red; /* the mean of its pixels, halves up */
+    uint8_t red; /* the mean of its pixels, halves rounded up */
     uint8_t green;
     uint8_t blue;
     uint32_t count; /* how many pixels have its label; never 0 in the first len places */
@@ -170,8 +171,9 @@ struct kistrovu_card { /* 3,068 bytes */
 struct kistrovu_card kistrovu_card(const uint8_t *pixels, size_t bytes, uint32_t closeness, uint8_t *labels, size_t places);
 
 /* ---- the card of a swatch, both as text, at closeness 0. Grounds 1, 2, 3, 11
- * docs/FORMAT.md has both texts. The first len places of bytes hold the text of the card; the rest are zero, but a full
- * card leaves none, so use len. A text may be cut off after KISTROVU_MOST_TEXT + 1 bytes: the answer is the same. */
+ * docs/FORMAT.md describes both texts. The first len places of bytes hold the text of the card; the rest are zero, but a
+ * full card leaves no such place, so use len. A text may be cut off after KISTROVU_MOST_TEXT + 1 bytes: the answer is the
+ * same. */
 
 struct kistrovu_printed { /* 12,524 bytes */
     uint32_t number;
@@ -182,7 +184,7 @@ struct kistrovu_printed { /* 12,524 bytes */
 struct kistrovu_printed kistrovu_print_card(const uint8_t *text, size_t bytes);
 
 /* ---- the line that the card program prints for a swatch that is turned down: the ground's number in 6 columns and a line
- * feed, 7 bytes. No ground concerns it: any number has a line, one of more than six digits that of its last six. */
+ * feed, 7 bytes. No ground concerns it: any number has a line; one of more than six digits has the line of its last six. */
 
 struct kistrovu_printed kistrovu_print_ground(uint32_t number);
 

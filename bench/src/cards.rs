@@ -1,4 +1,4 @@
-//! Cards of noisy cloths: the engine against the Rust program, and beside them other programs that reduce colours.
+//! Cards of noisy cloths: the engine against the Rust program, and other programs that reduce colours.
 
 use crate::fast_cards::{self, Scratch};
 use crate::{imagequant, medians, others, print, CLOSENESS};

@@ -1,5 +1,5 @@
 //! The fit, the verdict and the modes of a served histogram, written for speed: what a careful Rust program would do.
-//! It is held against the reference before anything is timed.
+//! It is compared with the reference before anything is timed.
 
 use reference::calls::MOST_BINS;
 use std::convert::Infallible;

@@ -78,7 +78,7 @@ pub struct Scratch {
     by_intensity: Vec<[u16; INTENSITIES]>,
 }
 
-/// The answer to a call that is not turned down but for the number of entries.
+/// The answer to a call that can be turned down only for its number of entries.
 pub fn card(bytes: &[u8], closeness: u32, labels: &mut [u8], scratch: &mut Scratch) -> CardAnswer {
     let pixels = bytes.len() / 3;
     let Scratch {

@@ -1,5 +1,5 @@
-//! libimagequant, the library behind pngquant, where it is installed. It is loaded when the bench runs, so that the bench
-//! builds without it. Both it and the engine are called in one process on the same pixels, and take turns.
+//! libimagequant, the library behind pngquant, if it is installed. It is loaded when the bench runs, so that the bench
+//! builds without it. It and the engine are called in one process on the same pixels, and take turns.
 
 use crate::{medians, print, CLOSENESS};
 use cloths::swatch::Swatch;
@@ -64,7 +64,7 @@ impl Library {
         }
     }
 
-    /// A palette of so many colours, and each pixel's place in it. 0 if all went well.
+    /// A palette of this many colours, and each pixel's place in it. 0 if all went well.
     fn quantize(&self, picture: &Picture, colours: c_int, labels: &mut [u8]) -> c_int {
         // SAFETY: the picture has width times height pixels of four bytes, the labels a byte for each; what is created is
         // destroyed once.

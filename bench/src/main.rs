@@ -4,11 +4,11 @@
 //!
 //!     cargo run --release
 //!
-//! KISTROVU_LIB names another folder to take `libkistrovu.a` from; `--only cards` times cards alone. Both are first held against the reference; a wrong
-//! answer is not timed and ends the run. Lines that the reference would take too long for are held against it on
-//! smaller lines of the same making, and at full length the engine against the Rust program. The two take turns in
-//! short rounds, and the figures are medians over the rounds: times of different runs say little about each other, the
-//! ratio of one run does.
+//! KISTROVU_LIB names another folder to take `libkistrovu.a` from; `--only cards` times only cards. Both are first compared
+//! with the reference; a wrong answer is not timed and ends the run. Where the reference would take too long for a line,
+//! shorter lines of the same kind are compared with it, and at full length the engine is compared with the Rust program.
+//! The two take turns in short rounds, and the figures are medians over the rounds: times of different runs do not compare
+//! well, ratios within one run do.
 
 mod cards;
 mod cases;

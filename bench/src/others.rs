@@ -1,6 +1,6 @@
-//! Other programs that reduce a picture's colours, where they are installed. They are given the picture as a file and
-//! as many colours as the card has entries, where they ask for that. Their times hold starting the program and reading and writing files, which
-//! the time on a picture of four pixels shows by itself.
+//! Other programs that reduce a picture's colours, if they are installed. They are given the picture as a file and, if
+//! they ask for a number of colours, as many as the card has entries. Their times include starting the program and reading
+//! and writing files; the time on a picture of four pixels shows how long that takes alone.
 
 use crate::picture::png;
 use cloths::swatch::Swatch;

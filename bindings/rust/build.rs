@@ -1,4 +1,4 @@
-//! Links the engine's static library: from the folder KISTROVU_LIB, or from the repository's target/staticlib.
+//! Links the engine's static library from the folder KISTROVU_LIB, or from the repository's target/staticlib.
 
 use std::env;
 use std::path::{Path, PathBuf};

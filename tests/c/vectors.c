@@ -57,7 +57,7 @@ _Noreturn static void stop(const struct reader *reader, const char *format, ...)
     exit(2);
 }
 
-/* The block with room for so many bytes, a new one for null. Never null, also for no bytes. */
+/* The block with room for this many bytes, a new one for null. Never null, not even for no bytes. */
 static void *resized(void *block, size_t bytes)
 {
     void *found = realloc(block, bytes > 0 ? bytes : 1);
@@ -203,7 +203,7 @@ static void add_numbers(const struct reader *reader, struct field *field, char *
 
 /* ---- records */
 
-/* The field of a name, a new one where the name has not been met. */
+/* The field of a name, a new one if the name has not been seen yet. */
 static struct field *field_to_fill(struct reader *reader, const char *name)
 {
     struct record *record = &reader->record;
@@ -310,7 +310,7 @@ static bool same_value(const struct reader *reader, size_t place, const char *na
     return same(reader, name, 0, value_at(reader, place, name), found);
 }
 
-/* A list that has to have so many values. */
+/* A list that must have this many values. */
 static const struct field *list_of(const struct reader *reader, size_t place, const char *name, size_t count)
 {
     const struct field *field = field_at(reader, place, name);

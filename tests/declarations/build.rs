@@ -1,4 +1,4 @@
-//! Writes the checks of bindings/rust, which tests/raw.rs includes: so they are compiled against the crate itself.
+//! Writes the checks of bindings/rust, which tests/raw.rs includes, so that they are compiled against the crate itself.
 
 // What the tests use alone is not used here.
 #[allow(dead_code)]

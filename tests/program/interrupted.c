@@ -1,5 +1,5 @@
-/* Put before the C library (LD_PRELOAD): as many reads of standard input as INTERRUPTIONS says are interrupted by a signal. The
- * others hand back one byte fewer than was asked for, as a slow pipe would, so that they come in turns. */
+/* Loaded before the C library (LD_PRELOAD): as many reads of standard input as INTERRUPTIONS says are interrupted by a signal. The
+ * others hand back one byte fewer than was asked for, as a slow pipe would, so that the two kinds alternate. */
 #define _GNU_SOURCE
 #include <errno.h>
 #include <stdlib.h>

@@ -31,7 +31,7 @@ make_swatches() {
     '
 }
 
-# An archive of so many swatches, one of them damaged, with names of every kind. make_archive FOLDER COUNT
+# An archive of COUNT swatches, one of them damaged, with names of every kind. make_archive FOLDER COUNT
 make_archive() {
     local odd=('-n.txt' '$(echo).swatch' 'a;b|c&d.txt' $'line\nfeed.swatch' 'back\slash.txt' 'star*?[a].swatch' '{} {.} {#}.txt'
         ' space at both ends .swatch' 'dots.in.it.swatch' '#hash.txt' '.swatch' "quote'.txt" 'double".swatch' '%d%s.txt' '~.txt')

@@ -145,7 +145,7 @@ damaged_cards() {
     done
 }
 
-# A card of so many entries, of one pixel each.
+# A card of this many entries, of one pixel each.
 entries() {
     awk -v n="$1" 'BEGIN { printf "%6d%6d%6d\n", n, n, 0
         for (i = 0; i < n; i++) printf "%6d%6d%6d%6d%6d%6d%6d%6d\n", 1, int(i / 16), i % 16, 0, i % 256, 9, 7, 1 }'

@@ -7,11 +7,11 @@ use alloc::{vec, vec::Vec};
 use core::fmt;
 use core::ops::Deref;
 
-/// What an entry of a card is.
+/// Whether an entry of a card is a grey or a colour.
 #[derive(Clone, Copy, Debug, PartialEq, Eq, Hash)]
 #[repr(u8)]
 pub enum Kind {
-    /// Pixels of so little saturation that they have no hue; they differ in intensity alone. 0 in the program's text.
+    /// Pixels of so little saturation that they have no hue; they differ only in intensity. 0 in the program's text.
     Grey = 0,
     /// Pixels that have a hue. 1 in the program's text.
     Colour = 1,
@@ -28,11 +28,11 @@ pub struct Entry {
     pub saturation: u8,
     /// The number of its intensity mode.
     pub intensity: u8,
-    /// The mean red of its pixels, halves up.
+    /// The mean red of its pixels, halves rounded up.
     pub red: u8,
-    /// The mean green of its pixels, halves up.
+    /// The mean green of its pixels, halves rounded up.
     pub green: u8,
-    /// The mean blue of its pixels, halves up.
+    /// The mean blue of its pixels, halves rounded up.
     pub blue: u8,
     /// How many pixels bear its number as their label; never 0.
     pub count: u32,
@@ -59,7 +59,7 @@ impl fmt::Debug for Entries {
     }
 }
 
-/// A card and the labels of the image that it was made of.
+/// A card, and the labels of the image that it was made from.
 #[cfg(feature = "alloc")]
 #[derive(Clone, Debug, PartialEq, Eq)]
 pub struct Card {
@@ -105,14 +105,15 @@ pub struct Card {
 /// ```
 #[cfg(feature = "alloc")]
 pub fn card(pixels: &[u8], closeness: u32) -> Result<Card, Ground> {
-    // A label for each pixel, so `Labels` is never the ground. No more than can be served: `Pixels` is tested earlier.
+    // There is a label for each pixel, so `Labels` is never the ground. There are no more labels than a served call can
+    // have: `Pixels` is tested earlier.
     let mut labels = vec![0; raw::MOST_PIXELS.min(pixels.len() / 3)];
     let entries = card_into(pixels, closeness, &mut labels)?.to_vec();
     Ok(Card { entries, labels })
 }
 
 /// Like [`card`], without a heap: the labels are written into a list with a place for each pixel. They stay as they were
-/// when the call is turned down. The thread needs 1 MB of stack. Grounds: [`Bytes`](Ground::Bytes),
+/// if the call is turned down. The thread needs 1 MB of stack. Grounds: [`Bytes`](Ground::Bytes),
 /// [`Pixels`](Ground::Pixels), [`Closeness`](Ground::Closeness), [`Labels`](Ground::Labels),
 /// [`Entries`](Ground::Entries).
 ///
@@ -142,8 +143,8 @@ pub fn card(pixels: &[u8], closeness: u32) -> Result<Card, Ground> {
 pub fn card_into(pixels: &[u8], closeness: u32, labels: &mut [u8]) -> Result<Entries, Ground> {
     let (start, bytes) = (pixels.as_ptr(), pixels.len());
     let (list, places) = (labels.as_mut_ptr(), labels.len());
-    // SAFETY: each pointer and length are those of one slice, lent for the time of the call; the two do not overlap, and
-    // that of an empty slice is not null.
+    // SAFETY: each pointer and its length are those of one slice, lent for the time of the call; the two slices do not
+    // overlap, and the pointer of an empty slice is not null.
     let answer = unsafe { raw::kistrovu_card(start, bytes, closeness, list, places) };
     read(&answer)
 }
@@ -172,7 +173,7 @@ fn read_entry(entry: raw::Entry) -> Entry {
     }
 }
 
-/// What is made of figures that the engine never hands back.
+/// How the wrapper treats figures that the engine never hands back.
 #[cfg(test)]
 mod tests {
     use super::*;

@@ -3,12 +3,12 @@
 use core::error::Error;
 use core::fmt;
 
-/// The enum and what is known of each of its cases, from one list.
+/// The enum and what is known about each of its cases, from one list.
 macro_rules! grounds {
     ($($name:ident = $number:literal: $sentence:literal,)*) => {
         /// Why a call was turned down. A call tests the grounds that concern it in the order of their numbers, and the
         /// first that holds is given. Numbers and sentences are those of the engine's rules; a number never gets another
-        /// meaning, and later versions may add some.
+        /// meaning, and later versions may add numbers.
         ///
         /// ```
         /// # use kistrovu::{fit, Direction, Ground};
@@ -22,7 +22,7 @@ macro_rules! grounds {
         #[repr(u32)]
         pub enum Ground {
             $(#[doc = $sentence] $name = $number,)*
-            /// The library gave a number that this crate does not know, which only a library of a later version may do.
+            /// The library gave a number that this crate does not know, which only a library of a later version can do.
             /// The calls of [`raw`](crate::raw) have the number itself.
             Unlisted = u32::MAX,
         }
@@ -79,7 +79,7 @@ impl Ground {
     }
 
     /// The ground of an answer's number: none for 0, which says that the call was served, and
-    /// [`Unlisted`](Ground::Unlisted) for a number that is not of the list.
+    /// [`Unlisted`](Ground::Unlisted) for a number that is not on the list.
     ///
     /// ```
     /// # use kistrovu::Ground;

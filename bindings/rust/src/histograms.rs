@@ -68,7 +68,8 @@ impl fmt::Debug for Fit {
 /// # Ok::<(), Ground>(())
 /// ```
 pub fn fit(histogram: &[u32], direction: Direction) -> Result<Fit, Ground> {
-    // SAFETY: pointer and length are those of one slice, lent for the time of the call. That of an empty slice is not null.
+    // SAFETY: pointer and length are those of one slice, lent for the time of the call. The pointer of an empty slice is
+    // not null.
     let answer =
         unsafe { raw::kistrovu_fit(histogram.as_ptr(), histogram.len(), direction.rising()) };
     read_fit(&answer, histogram.len())
@@ -90,7 +91,8 @@ fn read_fit(answer: &raw::FitAnswer, bins: usize) -> Result<Fit, Ground> {
 /// The outcome of the test whether a histogram can be taken for a monotone one.
 #[derive(Clone, Copy, Debug, PartialEq, Eq, Hash)]
 pub struct Verdict {
-    /// By how much the histogram exceeds the bar of the test, in units of 1/16,777,216 of a bit; below 0 it stays under it.
+    /// By how much the histogram exceeds the bar of the test, in units of 1/16,777,216 of a bit; negative if it stays below
+    /// the bar.
     pub cost: i64,
     /// Whether the cost is 0 or more: the histogram is not taken for a monotone one.
     pub rejected: bool,
@@ -127,7 +129,7 @@ fn read_verdict(answer: raw::VerdictAnswer) -> Result<Verdict, Ground> {
     })
 }
 
-/// What is made of figures that the engine never hands back.
+/// How the wrapper treats figures that the engine never hands back.
 #[cfg(test)]
 mod tests {
     use super::*;

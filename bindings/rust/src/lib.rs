@@ -24,35 +24,35 @@
 //! | [`fit`] | the monotone histogram that is nearest to a histogram | 6, 7 |
 //! | [`verdict`] | whether a histogram can be taken for a monotone one, and by how much | 6, 7, 8 |
 //! | [`line_modes`], [`line_modes_into`] | where the modes of a line of bins begin and end | 6, 7, 8; into a list also 10 |
-//! | [`ring_modes`], [`ring_modes_into`] | the same of a ring | 6, 7, 8; into a list also 10 |
+//! | [`ring_modes`], [`ring_modes_into`] | the same for a ring | 6, 7, 8; into a list also 10 |
 //! | [`card`], [`card_into`] | the card of an image and the label of each pixel | 4, 5, 8, 11; into labels also 9 |
 //! | [`print_card`] | the text of the card of a swatch that is given as text | 1, 2, 3, 11 |
 //! | [`print_ground`] | the line that the card program prints for a swatch that is turned down | none |
-//! | [`version`] | which version the library is | none |
+//! | [`version`] | the version of the library | none |
 //!
 //! A *swatch* is the scan of a piece of cloth: the program reads it as text, and the card call takes its pixels. The
 //! *closeness* e, 0 to [`MOST_CLOSENESS`](raw::MOST_CLOSENESS), says how near a histogram must be to a monotone one:
-//! the bar of the test rises by a bit with each step, so that a larger closeness wants clearer evidence for keeping two
-//! modes apart. The program works at 0.
+//! the bar of the test rises by a bit with each step, so that a larger closeness takes clearer evidence to keep two modes
+//! apart. The program works at 0.
 //!
 //! # Stack, heap and threads
 //!
 //! The engine keeps everything on the stack: a card call takes 510 KB of it and [`print_card`] 591 KB, whatever the
 //! image, every other call less than 32 KB. **A thread that makes cards needs 1 MB.** Threads of the standard library
-//! have 2 MB, if nothing else is asked. The engine keeps no state, so calls may run on any threads at once.
+//! have 2 MB by default. The engine keeps no state, so calls may run on many threads at once.
 //!
-//! Only what hands back a `Vec` ([`card`], [`line_modes`], [`ring_modes`]) uses the heap; without the feature `alloc`,
-//! which is on by default, they are left out. The crate does not need the standard library.
+//! Only the calls that hand back a `Vec` ([`card`], [`line_modes`], [`ring_modes`]) use the heap; without the feature
+//! `alloc`, which is on by default, they are left out. The crate does not need the standard library.
 //!
 //! # What is proved, and what is not
 //!
-//! That every call, on every input, gives exactly the answer that the rules define (they leave the order of a ring's
-//! separators open, and nothing else) is proved of the engine's source; `crates/kistrovu/src/lib.rt` states it. The proof
-//! does not cover the compiler that makes the library of it, nor anything of this crate: the declarations of [`raw`] are
-//! written by hand, and so is the wrapper around them. They are tested: the comparison under `tests/` makes all calls but
-//! [`version`] through these declarations, and the tests beside this crate make all of them through the wrapper. The
-//! wrapper takes no figure of the library on trust where memory is at stake: lengths are cut to the room there is, and
-//! flags are read as bytes.
+//! Every call, on every input, gives exactly the answer that the rules define (they leave open the order of a ring's
+//! separators, and nothing else). This is proved for the engine's source; `crates/kistrovu/src/lib.rt` states it. The
+//! proof does not cover the compiler that makes the library from it, nor anything in this crate: the declarations of
+//! [`raw`] are written by hand, and so is the wrapper around them. They are tested: the comparison under `tests/` makes
+//! all calls except [`version`] through these declarations, and the tests beside this crate make all of them through the
+//! wrapper. Where memory is at stake, the wrapper does not trust the library's figures: lengths are cut to the room there
+//! is, and flags are read as bytes.
 #![no_std]
 #![deny(missing_docs)]
 

@@ -30,7 +30,7 @@ pub fn line_modes(histogram: &[u32], closeness: u32) -> Result<Vec<u32>, Ground>
 }
 
 /// The separators of a ring of bins, each once: the bins at which its modes begin. Each mode runs from a separator round
-/// to the bin before the next. **Their order is free**, since a ring has no first bin: sort them where the order matters.
+/// to the bin before the next. **Their order is free**, since a ring has no first bin: sort them if the order matters.
 /// Grounds: [`Bins`](Ground::Bins), [`Sum`](Ground::Sum), [`Closeness`](Ground::Closeness).
 ///
 /// ```
@@ -50,7 +50,7 @@ pub fn ring_modes(histogram: &[u32], closeness: u32) -> Result<Vec<u32>, Ground>
 }
 
 /// Like [`line_modes`], without a heap: the separators are written into the first places of the list, and their number
-/// is handed back. Every other place stays as it was, and so do all when the call is turned down. Grounds:
+/// is handed back. Every other place stays as it was; if the call is turned down, all places do. Grounds:
 /// [`Bins`](Ground::Bins), [`Sum`](Ground::Sum), [`Closeness`](Ground::Closeness), [`Separators`](Ground::Separators).
 ///
 /// ```
@@ -76,7 +76,7 @@ pub fn line_modes_into(
 }
 
 /// Like [`ring_modes`], without a heap: the separators are written into the first places of the list, **in any order**,
-/// and their number is handed back. Every other place stays as it was, and so do all when the call is turned down.
+/// and their number is handed back. Every other place stays as it was; if the call is turned down, all places do.
 /// Grounds: [`Bins`](Ground::Bins), [`Sum`](Ground::Sum), [`Closeness`](Ground::Closeness),
 /// [`Separators`](Ground::Separators).
 ///
@@ -119,8 +119,8 @@ fn modes(
 ) -> Result<usize, Ground> {
     let (bins, len) = (histogram.as_ptr(), histogram.len());
     let (list, places) = (separators.as_mut_ptr(), separators.len());
-    // SAFETY: each pointer and length are those of one slice, lent for the time of the call; the two do not overlap, and
-    // that of an empty slice is not null.
+    // SAFETY: each pointer and its length are those of one slice, lent for the time of the call; the two slices do not
+    // overlap, and the pointer of an empty slice is not null.
     let answer = unsafe { call(bins, len, closeness, list, places) };
     read(answer, places)
 }
@@ -130,7 +130,7 @@ fn read(answer: ModesAnswer, places: usize) -> Result<usize, Ground> {
     Ok(places.min(answer.separators as usize))
 }
 
-/// What is made of figures that the engine never hands back.
+/// How the wrapper treats figures that the engine never hands back.
 #[cfg(test)]
 mod tests {
     use super::*;

@@ -1,15 +1,15 @@
-//! The calls as the static library exports them, declared by hand after `crates/kistrovu/src/lib.rt` and named as there.
+//! The calls as the static library exports them, declared by hand from `crates/kistrovu/src/lib.rt`, with the same names.
 //!
-//! An answer's `number` is 0 when the call was served, else the ground on which it was turned down, with zero in every
-//! other figure and every lent list as lent. The proof does not cover these declarations. Flags that come back are
-//! `u8`: a Rust `bool` that is neither 0 nor 1 is undefined behaviour, and nothing is assumed of a byte that foreign
+//! An answer's `number` is 0 if the call was served, else the ground on which it was turned down; then every other figure
+//! is zero, and every lent list is as it was lent. The proof does not cover these declarations. Flags that come back are
+//! `u8`: a Rust `bool` that is neither 0 nor 1 is undefined behaviour, and nothing is assumed about a byte that foreign
 //! code hands back. Flags that go in are `bool`, which Rust keeps at 0 or 1.
 //!
 //! # Safety
 //!
-//! A pointer and the length after it must name that many places, which the call may read, and write where the pointer is
-//! `*mut`. The pointer must not be null, also where the length is 0. What is written must not overlap another argument.
-//! Nothing else is asked: every call is served or turned down whatever the figures are.
+//! A pointer and the length after it must stand for that many places, which the call may read, and also write if the
+//! pointer is `*mut`. The pointer must not be null, even if the length is 0. What is written must not overlap another
+//! argument. Nothing else is required: every call is served or turned down, whatever the figures are.
 
 /// The most bins of a histogram, and so the places of a fit.
 pub const MOST_BINS: usize = 256;
@@ -64,7 +64,7 @@ pub struct FitAnswer {
 pub struct Verdict {
     /// The cost in units of 1/16,777,216 of a bit.
     pub cost: i64,
-    /// 1 when the histogram is rejected, else 0.
+    /// 1 if the histogram is rejected, else 0.
     pub rejected: u8,
 }
 
@@ -84,7 +84,7 @@ pub struct VerdictAnswer {
 pub struct ModesAnswer {
     /// 0, 6, 7, 8 or 10.
     pub number: u32,
-    /// How many separators stand in the first places of the list.
+    /// How many separators are in the first places of the list.
     pub separators: u32,
 }
 
@@ -100,7 +100,7 @@ pub struct Entry {
     pub saturation: u8,
     /// The number of its intensity mode.
     pub intensity: u8,
-    /// The mean red of its pixels, halves up.
+    /// The mean red of its pixels, halves rounded up.
     pub red: u8,
     /// The mean green, likewise.
     pub green: u8,
@@ -126,7 +126,7 @@ pub struct Card {
 #[repr(C)]
 #[derive(Clone, Copy, Debug, PartialEq, Eq)]
 pub struct Printed {
-    /// 0, 1, 2, 3 or 11; always 0 of the line of a ground.
+    /// 0, 1, 2, 3 or 11; always 0 for the line of a ground.
     pub number: u32,
     /// How many bytes there are to print.
     pub len: u32,
@@ -134,7 +134,7 @@ pub struct Printed {
     pub bytes: [u8; MOST_PRINTED],
 }
 
-// The engine's own sizes: without gaps but for those before and behind the figures of a verdict, the byte before an
+// The engine's own sizes. There are no gaps except those before and after the figures of a verdict, the byte before an
 // entry's count, and the end of what is printed.
 const _: () = assert!(size_of::<MeasuresAnswer>() == 8);
 const _: () = assert!(size_of::<FitAnswer>() == 4 + 8 * MOST_BINS);
@@ -145,7 +145,7 @@ const _: () = assert!(size_of::<Card>() == 8 + 12 * MOST_ENTRIES);
 const _: () = assert!(size_of::<Printed>() == (8 + MOST_PRINTED).next_multiple_of(4));
 
 extern "C" {
-    /// The library's version: 10,000 times the major number, plus 100 times the minor one, plus the patch.
+    /// The library's version: 10,000 · major + 100 · minor + patch.
     pub fn kistrovu_version() -> u32;
 
     /// The measures of one pixel.

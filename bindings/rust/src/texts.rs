@@ -12,7 +12,7 @@ pub struct Printed {
 }
 
 impl Printed {
-    /// Its bytes, lines that end with a line feed.
+    /// Its bytes: lines that end with a line feed.
     pub fn bytes(&self) -> &[u8] {
         &self.bytes[..self.len]
     }
@@ -56,13 +56,14 @@ impl fmt::Debug for Printed {
 /// # Ok::<(), Ground>(())
 /// ```
 pub fn print_card(text: &[u8]) -> Result<Printed, Ground> {
-    // SAFETY: pointer and length are those of one slice, lent for the time of the call. That of an empty slice is not null.
+    // SAFETY: pointer and length are those of one slice, lent for the time of the call. The pointer of an empty slice is
+    // not null.
     let answer = unsafe { raw::kistrovu_print_card(text.as_ptr(), text.len()) };
     read(&answer)
 }
 
 /// The line that the card program prints for a swatch that is turned down: the number of the ground in 6 columns, and a
-/// line feed. Every number has a line; of more than six digits it has the last six.
+/// line feed. Every number has a line; if it has more than six digits, the line has the last six.
 ///
 /// ```
 /// # use kistrovu::{print_card, print_ground};
@@ -89,7 +90,7 @@ fn printed(answer: &raw::Printed) -> Printed {
     }
 }
 
-/// What is made of figures that the engine never hands back.
+/// How the wrapper treats figures that the engine never hands back.
 #[cfg(test)]
 mod tests {
     use super::*;

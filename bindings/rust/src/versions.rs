@@ -10,7 +10,7 @@ pub struct Version {
     pub major: u32,
     /// Raised when something is added.
     pub minor: u32,
-    /// Raised by anything else.
+    /// Raised when anything else changes.
     pub patch: u32,
 }
 

@@ -1,4 +1,4 @@
-//! The grounds against the two other lists that there are of them: the header's names and numbers, and the sentences of
+//! The grounds, compared with the two other lists of them: the header's names and numbers, and the sentences of
 //! docs/METHOD.md.
 
 mod common;

@@ -1,5 +1,5 @@
-//! Lists that are lent: a call that is turned down leaves them as they were, one that is served writes the labels or the
-//! first places alone. And the calls that lend none give the same answers.
+//! Lists that are lent: a call that is turned down leaves them as they were; one that is served writes nothing but the
+//! labels or the first places. And the calls that are lent no list give the same answers.
 
 mod common;
 
@@ -13,12 +13,12 @@ const HUMPS: [u32; 7] = [0, 20, 0, 0, 20, 0, 30];
 type ModesInto = fn(&[u32], u32, &mut [u32]) -> Result<usize, Ground>;
 const MODES: [ModesInto; 2] = [line_modes_into, ring_modes_into];
 
-/// Numbers that are no bins, each another one, so that every place that is written shows.
+/// Numbers that are not bins, all different, so that every place that is written shows.
 fn list(places: usize) -> Vec<u32> {
     (0..places as u32).map(|place| 1_000_000 + place).collect()
 }
 
-/// The ground, and that the list came back as lent.
+/// The ground; checks that the list came back as lent.
 fn modes_turned_down(call: ModesInto, histogram: &[u32], closeness: u32, places: usize) -> Ground {
     let mut lent = list(places);
     let ground = call(histogram, closeness, &mut lent).unwrap_err();
@@ -71,7 +71,7 @@ fn limits_are_served() {
     assert!(card(&[7; 3 * MOST_PIXELS], MOST_CLOSENESS).is_ok());
 }
 
-/// The ground, and that the labels came back as lent.
+/// The ground; checks that the labels came back as lent.
 fn card_turned_down(pixels: &[u8], closeness: u32, places: usize) -> Ground {
     let lent: Vec<u8> = (0..places).map(|place| (251 - place % 241) as u8).collect();
     let mut labels = lent.clone();

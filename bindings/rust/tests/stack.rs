@@ -14,7 +14,7 @@ fn with_a_megabyte<T: Send + 'static>(work: impl FnOnce() -> T + Send + 'static)
     thread.expect("a thread").join().expect("its end")
 }
 
-/// An image of this many pixels, each another colour than the one before it.
+/// An image of this many pixels, each of another colour than the one before it.
 fn image(pixels: usize) -> Vec<u8> {
     let colour = |place: usize| [place, 3 * place, place / 256].map(|level| (level % 256) as u8);
     (0..pixels).flat_map(colour).collect()

@@ -18,7 +18,7 @@ fn swatch(name: &str) -> Swatch {
     Swatch { text, pixels, card }
 }
 
-/// The mean of a channel over the pixels of an entry, halves up.
+/// The mean of a channel over the pixels of an entry, halves rounded up.
 fn mean(swatch: &Swatch, entry: usize, channel: usize) -> u32 {
     let labelled = swatch.pixels.chunks(3).zip(&swatch.card.labels);
     let own = labelled.filter(|(_, &label)| usize::from(label) == entry);

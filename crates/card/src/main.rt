@@ -1,5 +1,5 @@
-// The card program: reads the text of a swatch and writes its card, or the line of the ground on which it is turned down. If reading
-// or writing fails, it says so on standard error; a text that could not be read to its end gets no answer.
+// The card program. It reads the text of a swatch and writes its card, or the line of the ground on which the swatch is turned down.
+// If reading or writing fails, it says so on standard error; a text that could not be read to its end gets no answer.
 use kistrovu::Printed;
 use kistrovu::kistrovu_print_card;
 use kistrovu::kistrovu_print_ground;
@@ -13,13 +13,13 @@ ghost use lib.ListN.{length};
 ghost use Rattle.io.specs.Counts.{Counts};
 ghost use Rattle.card.specs.Program.{programAnswer, HasRoom};
 
-// One byte more than the longest swatch: a longer text gets the number that these bytes get.
+// One byte more than the longest swatch. A longer text gets the same number as these bytes alone.
 const MOST_TEXT: usize = LONGEST_SWATCH + 1;
 
-// How often one read is tried again after a signal. Nothing says that signals end, but the program must.
+// How many times an interrupted read is tried again. Signals may never stop coming, but the program must end.
 const MOST_RETRIES: u32 = 1000;
 
-// How many bytes came, none where the text has ended, and whether reading failed.
+// How many bytes were read (none if the text has ended), and whether reading failed.
 struct Input {
     len: usize,
     failed: bool,

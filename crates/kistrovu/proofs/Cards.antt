@@ -1,4 +1,4 @@
--- What the card call answers and leaves, by its number; a card made twice is one card. Assumes nothing.
+-- What the card call answers and leaves, by its number; making a card twice gives the same card. Assumes nothing.
 use Prim.Native.Nat.{ℕ, _*_, _/_, _%_, _≤_, _<_}
 use mathlib.Core.Path.{_≡_, refl, sym, ap, _∙_}
 use mathlib.Core.Bool.{Bool, true, false, not, false≢true}

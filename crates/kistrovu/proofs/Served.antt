@@ -1,4 +1,4 @@
--- What a call's number says: of a served call no ground holds, and later grounds are asked only where none of the earlier holds. Assumes nothing.
+-- What a call's number says: if a call is served, no ground holds; a later ground is tested only if none of the earlier ones holds. Assumes nothing.
 use Prim.Native.Nat.{ℕ, _≤_, _<_}
 use mathlib.Core.Path.{_≡_, refl, sym, _∙_}
 use mathlib.Core.Bool.{Bool, true, false, _||_, false≢true}

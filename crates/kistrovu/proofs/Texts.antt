@@ -1,4 +1,4 @@
--- What the text call says and prints, from the reading of the text and the card of its pixels; long texts, and room for what is printed. Assumes nothing.
+-- What the text call answers and prints, from reading the text and from the card of its pixels; long texts, and room for what is printed. Assumes nothing.
 use Prim.Native.Nat.{ℕ, zero, suc, _≤_}
 use mathlib.Core.Path.{_≡_, refl, sym, ap, _∙_}
 use mathlib.Core.Bool.{Bool, true, false, cond}

@@ -25,7 +25,7 @@ use Rattle.kistrovu.specs.declared.ModesAnswer.{ModesAnswer}
 use Rattle.kistrovu.specs.declared.Card.{Card}
 use Rattle.kistrovu.specs.declared.Printed.{Printed}
 
--- D1 and A2: the value where the call is served (its number is 0), else the other
+-- D1 and A2: the first value if the call is served (its number is 0), else the second
 abbrev pub served : {A : Type 0} → ℕ → A → A → A
 served n a b = cond (eqb n 0) a b
 
@@ -44,7 +44,7 @@ fitAnswer rising h = record {
   lengths = padded 256 0 (served (fitNumber h) (map (λ (b : Block). b .len) (fitted (direction rising) h)) []);
 }
 
--- A3: the zeros of a verdict that is not given
+-- A3: the zeros that stand for a verdict when the call is turned down
 abbrev pub noVerdict : Verdict
 noVerdict = record { cost = pos 0; rejected = false }
 
@@ -84,19 +84,19 @@ cardAnswer e bytes places = record {
 unfoldable pub labelList : Closeness → List ℕ → List ℕ → List ℕ
 labelList e bytes list = served (cardNumber e bytes (length list)) (labels e (pixelsOf bytes)) list
 
--- X5 and X6: the bytes of a text's card; none where the text is turned down
+-- X5 and X6: the bytes of a text's card; none if the text is turned down
 unfoldable pub printed : List ℕ → List ℕ
 printed text =
     let ps = pixelsOf (bytesOf text) in
     served (textNumber text) (printedCard (length ps) programCloseness (entries programCloseness ps)) []
 
--- bytes to print in the first places, and zeros in the rest (A4)
+-- the bytes to print in the first places, and zeros in the rest (A4)
 abbrev pub printedBytes : ℕ → List ℕ → Printed
 printedBytes number xs = record { number = number; len = length xs; bytes = padded printedMost 0 xs }
 
 unfoldable pub printedAnswer : List ℕ → Printed
 printedAnswer text = printedBytes (textNumber text) (printed text)
 
--- the line of a ground (X7). The call takes every number and is always served
+-- the line of a ground (X7). The call takes any number and is always served
 unfoldable pub groundAnswer : ℕ → Printed
 groundAnswer number = printedBytes 0 (printedLine (number ∷ []))

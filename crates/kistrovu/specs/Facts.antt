@@ -1,4 +1,4 @@
--- What holds beside the equations: of a served call (D2 and D3), of a ring call's list, of a card made twice, and of the program's text. Assumes nothing.
+-- What holds besides the equations: for a served call (D2 and D3), for a ring call's list, for a card made twice, and for the program's text. Assumes nothing.
 use Prim.Native.Nat.{ℕ, suc, _≤_, _<_}
 use mathlib.Core.Path.{_≡_}
 use mathlib.Core.List.{List, map}
@@ -18,20 +18,20 @@ use Rattle.kistrovu.specs.declared.Card.{Card}
 use Rattle.kistrovu.specs.Grounds.{modesNumber, cardNumber}
 use Rattle.kistrovu.specs.Answers.{cardAnswer, labelList, printed, printedAnswer}
 
--- D2 and D3: what stands behind a served call, of number n
+-- D2 and D3: P holds if the call is served, that is, if its number n is 0
 abbrev pub IfServed : ℕ → Type 0 → Type 0
 IfServed n P = n ≡ 0 → P
 
 abbrev pub IfTurnedDown : ℕ → Type 0 → Type 0
 IfTurnedDown n P = 0 < n → P
 
--- R5: the separator list of a ring call, lent as `before` and left as `after`. Its order is the one free part: `order` names it and has as many members as
+-- R5: the separator list of a ring call, lent as `before` and left as `after`. Only the order is free: `order` has the separators in that order, as many as
 -- the answer r says
 pub record RingList (e : Closeness) (h before after : List ℕ) (r : ModesAnswer) : Type 0 where
   pub listed : IfServed (modesNumber e h (length before)) ((order : List ℕ) × ListsOnce e h order × (length order ≡ r .separators) × (after ≡ over order before))
   pub asLent : IfTurnedDown (modesNumber e h (length before)) (after ≡ before)
 
--- D3 of a served card call, said of what it hands back alone: the answer r, and the labels that it leaves
+-- D3 of a served card call, stated only about what it hands back: the answer r, and the labels that it leaves
 module _ (e : Closeness) (bytes : List ℕ) (r : Card) (labels : List ℕ) where
   -- pixel i counts under exactly one of the entries, and bears its number
   pub record BearsItsEntry (i : ℕ) : Type 0 where
@@ -49,16 +49,16 @@ module _ (e : Closeness) (bytes : List ℕ) (r : Card) (labels : List ℕ) where
     pub noneEmpty : (n : ℕ) → n < r .len → 0 < entryAt (r .entries) n .count
     pub everyPixel : total (map (λ (t : Entry). t .count) (take (r .len) (r .entries))) ≡ length labels
 
--- a card made twice is one card: what was in the label buffer has no say. Proved in proofs/Cards
+-- making a card twice gives the same card: what was in the label buffer before does not matter. Proved in proofs/Cards
 abbrev pub CardAgain : Type 0
 CardAgain = (e : Closeness) (bytes before before′ : List ℕ) → length before ≡ length before′
     → (cardAnswer e bytes (length before) ≡ cardAnswer e bytes (length before′))
     × IfServed (cardNumber e bytes (length before)) (labelList e bytes before ≡ labelList e bytes before′)
 
--- X8: a text longer than any swatch gets the number its first bytes get, up to the one that makes it too long. Proved in proofs/Texts
+-- X8: a text longer than any swatch gets the same answer as its first bytes, up to the one that makes it too long. Proved in proofs/Texts
 abbrev pub LongText : Type 0
 LongText = (text : List ℕ) → longestSwatch < length text → printedAnswer (take (suc longestSwatch) text) ≡ printedAnswer text
 
--- there is room for all that is printed. Proved in proofs/Texts
+-- there is room for everything that is printed. Proved in proofs/Texts
 abbrev pub PrintedFits : Type 0
 PrintedFits = (text : List ℕ) → length (printed text) ≤ printedMost

@@ -1,4 +1,4 @@
--- The grounds for turning a call down, rules G1 to G11, and which of them concern a call (A2). The number of a ground is the answer. Assumes nothing.
+-- The grounds for turning a call down, rules G1 to G11, and which of them concern a call (A2). A call answers with the number of a ground. Assumes nothing.
 use Prim.Native.Nat.{ℕ, _/_, _%_}
 use mathlib.Core.Bool.{Bool, cond, not, _||_}
 use mathlib.Core.List.{List, [], _∷_}
@@ -15,7 +15,7 @@ pub record Ground : Type 0 where
   pub number : ℕ
   pub holds : Bool
 
--- A2: the number of the first that holds; 0 when none does
+-- A2: the number of the first ground that holds; 0 if none does
 unfoldable pub firstGround : List Ground → ℕ
 firstGround [] = 0
 firstGround (g ∷ gs) = cond (g .holds) (g .number) (firstGround gs)
@@ -64,18 +64,18 @@ fewPlaces h places = record { number = 10; holds = ltb places (length h) }
 abbrev pub manyEntries : Closeness → List ℕ → Ground
 manyEntries e bytes = record { number = 11; holds = ltb mostEntries (length (entries e (pixelsOf bytes))) }
 
--- A2: the number of each call, from the grounds that concern it in their order. The measures of a pixel have none
+-- A2: the number of each call, from the grounds that concern it, in their order. The measures of a pixel have none
 unfoldable pub fitNumber : List ℕ → ℕ
 fitNumber h = firstGround (badLength h ∷ largeSum h ∷ [])
 
 unfoldable pub verdictNumber : Closeness → List ℕ → ℕ
 verdictNumber e h = firstGround (badLength h ∷ largeSum h ∷ badCloseness e ∷ [])
 
--- of the modes of a line and of a ring
+-- the number of a modes call, for a line and for a ring
 unfoldable pub modesNumber : Closeness → List ℕ → ℕ → ℕ
 modesNumber e h places = firstGround (badLength h ∷ largeSum h ∷ badCloseness e ∷ fewPlaces h places ∷ [])
 
--- of a card, before its entries are found, and with them
+-- the number of a card call: as far as it is known before the entries are found, and with them
 unfoldable pub askedNumber : Closeness → List ℕ → ℕ → ℕ
 askedNumber e bytes places = firstGround (badBytes bytes ∷ manyPixels bytes ∷ badCloseness e ∷ badLabels bytes places ∷ [])
 
@@ -86,6 +86,6 @@ cardNumber e bytes places = firstGround (badBytes bytes ∷ manyPixels bytes ∷
 unfoldable pub programCloseness : Closeness
 programCloseness = 0
 
--- of the text of a swatch
+-- the number of the text of a swatch
 unfoldable pub textNumber : List ℕ → ℕ
 textNumber text = firstGround (noHeader text ∷ wrongSize text ∷ badLines text ∷ manyEntries programCloseness (bytesOf text) ∷ [])

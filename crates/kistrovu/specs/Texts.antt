@@ -1,4 +1,4 @@
--- What the code says and prints for the text of a swatch. No public promise cites it. Assumes nothing.
+-- What the code answers and prints for the text of a swatch. No public promise cites it. Assumes nothing.
 use Prim.Native.Nat.{ℕ}
 use mathlib.Core.Path.{_≡_}
 use mathlib.Core.Bool.{cond}
@@ -15,13 +15,13 @@ use Rattle.kistrovu.specs.Answers.{printed}
 use Rattle.kistrovu.specs.Facts.{IfServed}
 use Rattle.kistrovu.specs.declared.printing.Outcome.{Outcome}
 
--- a text with this number, and with this list written
+-- the text gets this number, and this list is written
 pub record Prints (number : ℕ) (list before after : List ℕ) (r : Outcome) : Type 0 where
   pub numbered : r .number ≡ number
   pub long : r .len ≡ length list
   pub written : after ≡ over list before
 
--- of pixels: the number 11 or the card
+-- for pixels: the number 11, or the card
 abbrev pub PixelsPrinted : List ℕ → List ℕ → List ℕ → Outcome → Type 0
 PixelsPrinted bytes before after r =
     let ps = pixelsOf bytes in

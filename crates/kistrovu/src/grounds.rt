@@ -1,4 +1,4 @@
-// The number of a call: the first of the grounds that concern it, or 0.
+// The number of a call: that of the first ground that holds, of those that concern the call, or 0 if none holds.
 use palette::MOST_PIXELS;
 use verdict::MOST_CLOSENESS;
 ghost use mathlib.Core.Path.{_≡_};
@@ -7,7 +7,7 @@ ghost use lib.ListN.{length};
 ghost use Rattle.lists.specs.Lists.{total};
 ghost use Rattle.kistrovu.specs.Grounds.{fitNumber, verdictNumber, modesNumber, askedNumber};
 
-// The sum of the counts. With no more than 256 of them it fits, whatever they are.
+// The sum of the counts. There are at most 256 of them, so it cannot overflow.
 fn sum(h: &[u32]) -> u64
     requires { ⌜ length (now h) ≤ 256 ⌝ }
     ensures { λ r. ⌜ r ≡ total (now (h .entry)) ⌝ }
@@ -62,7 +62,7 @@ pub fn modes_number(h: &[u32], closeness: u32, places: usize) -> u32
     0
 }
 
-// Of a card, before its entries are found.
+// The number of a card call, as far as it is known before the entries are found.
 pub fn card_asked(pixels: &[u8], closeness: u32, places: usize) -> u32
     ensures { λ r. ⌜ r ≡ askedNumber closeness (now (pixels .entry)) places ⌝ }
 {

@@ -1,5 +1,5 @@
-// The public calls, and nothing else: what each promises, for every input, served or turned down (demands D1 to D3 of docs/METHOD.md).
-// No call asks anything of its caller. `now (s .entry)` is the list that was lent, `now (s .exit)` the list that is left.
+// The public calls, and nothing else. Each contract says what the call promises for every input, served or turned down (demands D1 to
+// D3 of docs/METHOD.md). No call has a precondition. `now (s .entry)` is the list as it was lent, `now (s .exit)` as the call leaves it.
 use palette::Entry;
 use palette::MOST_ENTRIES;
 use pixel::Measures;
@@ -34,18 +34,18 @@ ghost use Rattle.kistrovu.specs.Facts.{IfServed, RingList, SoundAnswer};
 mod grounds;
 mod printing;
 
-// 10,000 times the major number, plus 100 times the minor one, plus the patch. The file VERSION is its source: tools/version writes it here.
+// 10,000 · major + 100 · minor + patch. Its source is the file VERSION; tools/version writes it here.
 const VERSION: u32 = 20000;
 
-// The answers of the public calls. Each has the call's number: 0 when it is served, else the ground on which it is turned down,
-// with zero in every other figure.
+// The answers of the public calls. Each has the call's number: 0 if the call is served, otherwise the ground on which it is turned
+// down. Every other figure is then zero.
 #[repr(C)]
 pub struct MeasuresAnswer {
     pub number: u32,
     pub measures: Measures,
 }
 
-// Bin i has the block of sum sums[i] and length lengths[i]; places past the last bin are zero.
+// The block of bin i has sum sums[i] and length lengths[i]; places past the last bin are zero.
 #[repr(C)]
 pub struct FitAnswer {
     pub number: u32,
@@ -74,7 +74,7 @@ pub struct Card {
     pub entries: [Entry; MOST_ENTRIES],
 }
 
-// A text to print: the first len of bytes; the rest are zero.
+// A text to print: the first len places of bytes hold it; the rest are zero.
 #[repr(C)]
 pub struct Printed {
     pub number: u32,
@@ -82,7 +82,7 @@ pub struct Printed {
     pub bytes: [u8; PRINTED_MOST],
 }
 
-// Which version the library is. No ground concerns it.
+// The version of the library. No ground concerns it.
 #[no_mangle]
 pub extern "C" fn kistrovu_version() -> u32
     ensures { λ r. ⌜ r ≡ libraryVersion ⌝ }
@@ -238,8 +238,8 @@ pub extern "C" fn kistrovu_print_card(text: &[u8]) -> Printed
     }
 }
 
-// The line that the card program prints for a swatch that is turned down: the number of the ground. It takes any number, and prints
-// the last six digits of a longer one. No ground concerns it.
+// The line that the card program prints for a swatch that is turned down: the number of the ground. The call takes any number, and
+// prints the last six digits of one that has more. No ground concerns it.
 #[no_mangle]
 pub extern "C" fn kistrovu_print_ground(number: u32) -> Printed
     ensures { λ r. ⌜ r ≡ groundAnswer number ⌝ }

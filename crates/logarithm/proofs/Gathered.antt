@@ -1,4 +1,4 @@
--- The worker's bits are the definition's: 'the next lower bit of lg, from 2^23 down' set where it belongs, or every bit doubled as often as rounds follow it.
+-- The worker finds the same bits as the definition: setting each bit in its place, from 2^23 down, is the same as doubling it once for each round that follows.
 -- Assumes nothing.
 use Prim.Native.Nat.{ℕ, zero, suc, _+_, _*_, _/_, _^_}
 use mathlib.Core.Path.{_≡_, ap, _∙_}

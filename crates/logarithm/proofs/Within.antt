@@ -1,4 +1,4 @@
--- 2^lg ≤ x^(2^24) < 2^(lg+2), by what a round keeps: x^(2^r) lies between 2^bits times the mantissa, and that times (1 + 2^-31)^(2^r - 1). Assumes nothing.
+-- 2^lg ≤ x^(2^24) < 2^(lg+2), by what each round preserves: x^(2^r) lies between 2^bits times the mantissa and that times (1 + 2^-31)^(2^r - 1). Assumes nothing.
 use Prim.Native.Nat.{ℕ, zero, suc, _+_, _*_, _-_, _/_, _^_, _≤_, _<_, zero-le}
 use mathlib.Core.Path.{_≡_, refl, sym, ap, ap₂, subst, _∙_}
 use lib.Dec.{leb, lit<, lit≤}

@@ -1,4 +1,4 @@
--- The logarithm: rules L1 to L3. The number of rounds stands here alone. Assumes nothing.
+-- The logarithm: rules L1 to L3. The number of rounds is given only here. Assumes nothing.
 use Prim.Native.Nat.{ℕ, zero, suc, _+_, _*_, _-_, _/_, _^_}
 use mathlib.Core.Bool.{cond}
 use lib.Dec.{leb}
@@ -7,16 +7,16 @@ use lib.Dec.{leb}
 unfoldable pub roundCount : ℕ
 roundCount = 24
 
--- L1: units to a bit
+-- L1: units per bit
 unfoldable pub unitsPerBit : ℕ
 unitsPerBit = 2 ^ roundCount
 
--- L2: the floor of log2 x, where x < 2 ^ suc n
+-- L2: the floor of log2 x, for x < 2 ^ suc n
 unfoldable pub floorLog : ℕ → ℕ → ℕ
 floorLog zero x = 0
 floorLog (suc n) x = let r = floorLog n x in cond (leb (2 ^ suc n) x) (suc n) r
 
--- L3: n rounds are left, y is the scaled number and l the logarithm so far. A square of 64 bits sets the bit of this round; either way 32 bits of it are kept
+-- L3: n rounds are left, y is the scaled number and l the logarithm so far. If the square has 64 bits, this round's bit is set; either way 32 bits of the square are kept
 unfoldable pub rounds : ℕ → ℕ → ℕ → ℕ
 rounds zero y l = l
 rounds (suc n) y l =

@@ -1,5 +1,5 @@
 -- The logarithm's worker: the state that a round takes and hands back. Assumes nothing.
--- The bits found so far are one whole number: each round doubles it and adds the bit found, so that no round needs to know its place.
+-- The bits found so far form one whole number. Each round doubles it and adds the bit found, so that no round needs to know which one it is.
 use Prim.Native.Nat.{ℕ, zero, suc, _+_, _*_, _-_, _/_, _^_, _≤_, _<_}
 use mathlib.Core.Bool.{cond}
 use lib.Dec.{leb}
@@ -10,13 +10,13 @@ use Rattle.logarithm.specs.Log.{floorLog}
 unfoldable pub start : ℕ → Logarithm
 start x = let f : ℕ = floorLog 31 x in record { mantissa = x * 2 ^ (31 - f); bits = f }
 
--- a state that a round takes: the mantissa has 32 bits, and there is room for one bit more
+-- a state that a round can take: the mantissa has 32 bits, and there is room for one more bit
 pub record Ready (s : Logarithm) : Type 0 where
   pub low : 2 ^ 31 ≤ s .mantissa
   pub high : s .mantissa < 2 ^ 32
   pub room : s .bits < 2 ^ 63
 
--- L3: from a state to the next
+-- L3: from one state to the next
 unfoldable pub round : Logarithm → Logarithm
 round s =
     cond (leb (2 ^ 63) (s .mantissa * s .mantissa))

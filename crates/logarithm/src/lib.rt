@@ -1,10 +1,10 @@
-// The logarithm, by squaring: a state goes from round to round, and each finds one bit more (rules L1 to L4).
+// The logarithm, by repeated squaring: a state passes from round to round, and each round finds one more bit (rules L1 to L4).
 ghost use mathlib.Core.Path.{_≡_};
 ghost use Prim.Native.Nat.{_≤_, _<_, _*_, _^_};
 ghost use Rattle.logarithm.specs.Log.{lg, unitsPerBit};
 ghost use Rattle.logarithm.specs.Worker.{Ready, start, round};
 
-// The worker's state: a mantissa from 2^31 up to below 2^32, and the bits of the logarithm found so far.
+// The state between rounds: a mantissa of 2^31 or more and below 2^32, and the bits of the logarithm found so far.
 pub struct Logarithm {
     pub mantissa: u64,
     pub bits: u64,
@@ -15,7 +15,7 @@ impl Logarithm {
 
     pub const UNITS_PER_BIT: u64 = 16777216;
 
-    // Whole bits as units.
+    // Whole bits, converted to units.
     pub fn units(bits: u64) -> u64
         requires { ⌜ bits < 2 ^ 32 ⌝ }
         ensures { λ r. ⌜ r ≡ bits * unitsPerBit ⌝ }
@@ -35,7 +35,7 @@ impl Logarithm {
         }
     }
 
-    // One bit more. The two arms compile to one shift by 31 or 32, with no jump.
+    // Finds one more bit. The two arms compile to a single shift, by 31 or by 32, without a jump.
     pub fn round(self) -> Self
         requires { ⌜ Ready self ⌝ }
         ensures { λ r. ⌜ r ≡ round self ⌝ }
@@ -77,7 +77,7 @@ pub struct Logs {
     pub d: u64,
 }
 
-// Four logarithms side by side in one loop: a squaring waits for the one before it, and the other three go on meanwhile.
+// Four logarithms side by side in one loop: while one waits for its last squaring, the other three go on.
 pub fn lg_four(a: u64, b: u64, c: u64, d: u64) -> Logs
     requires { ⌜ (1 ≤ a) × (a < 2 ^ 32) ⌝ }
     requires { ⌜ (1 ≤ b) × (b < 2 ^ 32) ⌝ }

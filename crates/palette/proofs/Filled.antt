@@ -1,4 +1,4 @@
--- No mode of a histogram with counts is empty, so no child of a branch with pixels is. Assumes nothing.
+-- No mode of a histogram with counts is empty, so no child of a branch with pixels is empty. Assumes nothing.
 use Prim.Native.Nat.{ℕ, suc, _+_, _-_, _≤_, _<_}
 use mathlib.Core.Path.{_≡_, refl, sym, ap, _∙_}
 use mathlib.Core.Bool.{Bool, true, false, cond}

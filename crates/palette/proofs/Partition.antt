@@ -1,4 +1,4 @@
--- Modes part the pixels of a branch: a pixel of bytes lies in exactly one child of a branch that has it, and in exactly one branch below it. Assumes nothing.
+-- Modes partition the pixels of a branch: a pixel of bytes lies in exactly one child of a branch that has it, and in exactly one branch below that one. Assumes nothing.
 use Prim.Native.Nat.{ℕ}
 use mathlib.Core.Path.{_≡_, refl, sym, ap, fun-ext, _∙_}
 use mathlib.Core.Bool.{Bool, true, false, cond, _&&_}

@@ -1,4 +1,4 @@
--- Shuffled pixels have the same card: every count and every sum over them is the same, and the card rests on those alone. Assumes nothing.
+-- Shuffled pixels have the same card: every count and every sum over them is the same, and the card depends on nothing else. Assumes nothing.
 use Prim.Native.Nat.{ℕ, _+_, _*_, _/_}
 use mathlib.Core.Path.{_≡_, refl, sym, ap, ap₂, fun-ext, _∙_}
 use mathlib.Core.Bool.{Bool, cond, _&&_}

@@ -1,8 +1,8 @@
 -- The card of a cloth, its palette: rules C1 to C8. Assumes nothing.
 --   Branch              a kind, modes chosen level by level, and the pixels whose bins lie in them
---   members             those of its pixels that the image has; histogramIn, modesFound: their histogram, how many modes it has
---   child, divide       one mode further; all modes at the levels left
---   branches, entries   the card: a branch for each entry; labels: each pixel's entry
+--   members             the pixels of the image that belong to it; histogramIn, modesFound: their histogram, and how many modes it has
+--   child, divide       the branch of one more mode; the branches of all modes at the levels left
+--   branches, entries   the card, with a branch for each entry; labels: each pixel's entry
 use Prim.Native.Nat.{ℕ, _+_, _*_, _/_}
 use mathlib.Core.Bool.{Bool, cond, not, _&&_}
 use mathlib.Core.List.{List, [], _∷_, _++_, map, flatMap}
@@ -22,7 +22,7 @@ pub record Branch : Type 0 where
   pub intensity : ℕ
   pub has : Pixel → Bool
 
--- C5: kind 0 is grey, 1 colour. No mode is chosen yet; hue and saturation of a grey stay 0
+-- C5: kind 0 is grey, 1 is colour. No mode is chosen yet; the hue and saturation modes of a grey stay 0
 abbrev pub allGreys : Branch
 allGreys = record { kind = 0; hue = 0; saturation = 0; intensity = 0; has = isGrey }
 
@@ -32,11 +32,11 @@ allColours = record { kind = 1; hue = 0; saturation = 0; intensity = 0; has = λ
 unfoldable pub members : List Pixel → Branch → List Pixel
 members ps b = filter (b .has) ps
 
--- C2: the histogram of a level, of the pixels of the branch alone
+-- C2: the histogram of a level, of the pixels of the branch only
 unfoldable pub histogramIn : List Pixel → Level → Branch → List ℕ
 histogramIn ps l b = histogram l (members ps b)
 
--- C6: a mean, halves up
+-- C6: a mean, with halves rounded up
 unfoldable pub meanOf : List ℕ → ℕ
 meanOf xs = (2 * total xs + length xs) / (2 * length xs)
 
@@ -59,7 +59,7 @@ module _ (e : Closeness) (ps : List Pixel) where
   unfoldable pub modesFound : Level → Branch → ℕ
   modesFound l b = length (modesAt e l (histogramIn ps l b))
 
-  -- C7: the pixel is one of b, and its bin lies in mode m of that histogram
+  -- C7: the pixel belongs to branch b, and its bin lies in mode m of that branch's histogram
   unfoldable pub inChild : Level → Branch → ℕ → Pixel → Bool
   inChild l b m p = b .has p && liesIn e l (histogramIn ps l b) m (binOf l p)
 
@@ -68,12 +68,12 @@ module _ (e : Closeness) (ps : List Pixel) where
   child saturation b m = record { kind = b .kind; hue = b .hue; saturation = m; intensity = b .intensity; has = inChild saturation b m }
   child intensity b m = record { kind = b .kind; hue = b .hue; saturation = b .saturation; intensity = m; has = inChild intensity b m }
 
-  -- C1: all modes at the levels left, in their order
+  -- C1: the branches of all modes at the levels left, in the order of the modes
   unfoldable pub divide : List Level → Branch → List Branch
   divide [] b = b ∷ []
   divide (l ∷ ls) b = flatMap (λ m. divide ls (child l b m)) (numbers 0 (modesFound l b))
 
-  -- C3: a kind without pixels has none
+  -- C3: a kind without pixels has no branches
   unfoldable pub divideSome : List Level → Branch → List Branch
   divideSome ls b = cond (eqb (length (members ps b)) 0) [] (divide ls b)
 
@@ -81,7 +81,7 @@ module _ (e : Closeness) (ps : List Pixel) where
   unfoldable pub branches : List Branch
   branches = divideSome greyLevels allGreys ++ divideSome colourLevels allColours
 
-  -- C4: the card, without a limit
+  -- C4: the card, with no limit on its entries
   unfoldable pub entries : List Entry
   entries = map (entryOf ps) branches
 

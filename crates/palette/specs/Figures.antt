@@ -10,7 +10,7 @@ use Rattle.palette.specs.Cards.{entries}
 use Rattle.palette.specs.Sound.{pixelAt, entryAt}
 use Rattle.palette.specs.declared.Entry.{Entry}
 
--- an entry of so many pixels (C5): a histogram has no more modes than bins, a mean of bytes is a byte, and no pixel counts twice
+-- an entry of an image with this many pixels (C5): a histogram has no more modes than bins, a mean of bytes is a byte, and no pixel counts twice
 pub record EntryBounds (pixels : ℕ) (t : Entry) : Type 0 where
   pub kind : t .kind ≤ 1
   pub hue : t .hue < binCount hue

@@ -1,13 +1,13 @@
--- What follows of every card, whatever the order of its pixels. Assumes nothing.
+-- What holds for every card, whatever the order of its pixels. Assumes nothing.
 --   Shuffle         the same members in another order
---   ShuffleKeeps    shuffling the pixels leaves the entries and carries the labels along
+--   ShuffleKeeps    shuffling the pixels leaves the entries as they are and moves each label with its pixel
 use mathlib.Core.Path.{_≡_}
 use mathlib.Core.List.{List, [], _∷_, map}
 use Rattle.pixel.specs.declared.Pixel.{Pixel}
 use Rattle.verdict.specs.Test.{Closeness}
 use Rattle.palette.specs.Cards.{entries, label, labels}
 
--- neighbours changed places, anywhere in the list, and again
+-- neighbours swap places, anywhere in the list, any number of times
 pub data Shuffle {A : Type 0} : List A → List A → Type 0 where
   none : Shuffle [] []
   keep : {x : A} {xs ys : List A} → Shuffle xs ys → Shuffle (x ∷ xs) (x ∷ ys)

@@ -1,7 +1,7 @@
--- D3 on a card. Assumes nothing.
+-- D3 for a card. Assumes nothing.
 --   countsUnder             a pixel counts under an entry, by the entry's kind and mode numbers
---   HistogramSound          one histogram of the card; AllSound: it and every one below it
---   OneEntry, SoundCard     one pixel; the card
+--   HistogramSound          one histogram of the card; AllSound: this one and every one below it
+--   OneEntry, SoundCard     D3 for one pixel; for the card
 use Prim.Native.Nat.{ℕ, suc, _+_, _*_, _≤_, _<_}
 use mathlib.Core.Path.{_≡_}
 use mathlib.Core.Bool.{Bool, cond}
@@ -38,7 +38,7 @@ module _ (e : Closeness) (ps : List Pixel) where
     -- M10: each pixel counts once
     pub eachOnce : total (histogramIn ps l b) ≡ length (members ps b)
 
-  -- the histogram of the first level left, and every histogram below each of its modes
+  -- the histogram of the first level that is left, and every histogram below each of its modes
   abbrev pub AllSound : List Level → Branch → Type 0
   AllSound [] b = Unit {0}
   AllSound (l ∷ ls) b = HistogramSound l b × ((m : ℕ) → m < modesFound e ps l b → AllSound ls (child e ps l b m))

@@ -1,4 +1,4 @@
-// What a card is made of: its entries, and how many of them and of pixels there may be. A card is defined in specs/; `making` has the code that makes it.
+// What a card is made of: its entries, and the limits on entries and pixels. specs/ defines what a card is; the crate `making` has the code that makes one.
 ghost use mathlib.Core.Path.{_≡_};
 ghost use mathlib.Core.List.{[]};
 ghost use Rattle.lists.specs.Lists.{padded};

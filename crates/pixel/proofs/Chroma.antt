@@ -1,4 +1,4 @@
--- Q: never negative, at most 65025 for bytes, a sum of two squares, and 0 where the hue point is the origin. Assumes nothing.
+-- Q: never negative, at most 65025 for bytes, a sum of two squares, and 0 if the hue point is the origin. Assumes nothing.
 use Prim.Native.Nat.{ℕ, _+_, _*_, _-_, _≤_}
 use mathlib.Core.Path.{_≡_}
 use native.Mathlib.Omega.{arith}

@@ -1,4 +1,4 @@
--- The tangents that a point passes, by every third, and the ranges of quarter and count. Assumes nothing.
+-- The tangents that a point passes, counted by every third one, and the ranges of the quarter and of the count. Assumes nothing.
 use Prim.Native.Nat.{ℕ, zero, suc, _+_, _*_, _≤_}
 use mathlib.Core.Path.{_≡_, refl}
 use mathlib.Core.Bool.{Bool, true, false, cond}

@@ -1,4 +1,4 @@
--- The whole number that the lines of specs/Root give is the whole square root or 1 below it: tried for each number up to 1734. Assumes nothing.
+-- The whole number that the lines of specs/Root give is the square root rounded down, or 1 less: computed for each number up to 1734. Assumes nothing.
 use Prim.Native.Nat.{ℕ, zero, suc, _+_, _*_, _/_, _≤_, _<_}
 use mathlib.Core.Path.{_≡_, refl, ap, _∙_}
 use mathlib.Core.Bool.{Bool, true, false, cond, false≢true}

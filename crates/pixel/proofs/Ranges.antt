@@ -1,4 +1,4 @@
--- The laws of specs/Ranges, and each range by itself. Assumes nothing.
+-- The laws of specs/Ranges, and each range on its own. Assumes nothing.
 use Prim.Native.Nat.{ℕ, _+_, _*_, _≤_, _<_}
 use lib.Dec.{leb}
 use native.Mathlib.Omega.{arith}

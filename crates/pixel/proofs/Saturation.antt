@@ -1,4 +1,4 @@
--- The saturation bin from Q, by where bins begin. Assumes nothing.
+-- The saturation bin from Q, by where the bins begin. Assumes nothing.
 use Prim.Native.Nat.{ℕ, _+_, _*_, _/_, _≤_, _<_}
 use mathlib.Core.Path.{_≡_, sym}
 use mathlib.Core.Bool.{cond}

@@ -2,7 +2,7 @@
 --   chromaSquared                            Q; isGrey: by Q
 --   intensityBin, saturationBin, hueBin      the three measures; measuresOf: all of them
 --   huePoint, quarter, turnedBack, hueOf     (u, v), its quarter, (a, b), and the bin of a coloured pixel
---   saturationOf, tangentsPassed, turnedOf   the steps to them: from Q; of (a, b); quarter, a and b in one
+--   saturationOf, tangentsPassed, turnedOf   the steps on the way: from Q; from (a, b); quarter, a and b in one
 use Prim.Native.Nat.{ℕ, zero, suc, _+_, _*_, _-_, _/_}
 use mathlib.Core.Bool.{Bool, cond, _&&_}
 use mathlib.Core.List.{List, [], _∷_}
@@ -14,11 +14,11 @@ use Rattle.pixel.specs.declared.Pixel.{Pixel}
 use Rattle.pixel.specs.declared.Measures.{Measures}
 use Rattle.pixel.specs.declared.Turned.{Turned}
 
--- M1: bins 15 wide, of the sum of the three bytes
+-- M1: the sum of the three bytes, in bins 15 wide
 unfoldable pub intensityBin : Pixel → ℕ
 intensityBin p = (p .red + p .green + p .blue) / 15
 
--- M2: Q, of which the saturation squared is 2Q/3; never negative (ChromaWhole)
+-- M2: Q, which is never negative (ChromaWhole). The square of the saturation is 2Q/3
 unfoldable pub chromaSquared : Pixel → ℕ
 chromaSquared p =
     p .red * p .red + p .green * p .green + p .blue * p .blue
@@ -51,7 +51,7 @@ huePoint p = record {
   y = subℕ (1000000 * (p .green + p .blue)) (1000000 * (2 * p .red));
 }
 
--- M6: each quarter has one of its two half-axes. No coloured pixel lies at the origin
+-- M6: each quarter includes one of the two half-axes that bound it. No coloured pixel lies at the origin
 unfoldable pub quarter : Point → ℕ
 quarter c =
     cond (ltZ (pos 0) (c .x) && leZ (pos 0) (c .y)) 0
@@ -63,7 +63,7 @@ unfoldable pub turnedBack : ℕ → Point → Point
 turnedBack zero c = c
 turnedBack (suc n) c = turnedBack n (record { x = c .y; y = negℤ (c .x) })
 
--- M7: the quarter of a point, and (a, b); the numbers themselves, since neither is negative (Ranges)
+-- M7: the quarter of a point, and (a, b). Neither a nor b is negative (Ranges), so each is its own absolute value
 unfoldable pub turnedOf : Point → Turned
 turnedOf c =
     let d = turnedBack (quarter c) c in
@@ -73,7 +73,7 @@ turnedOf c =
 unfoldable pub tangentsPassed : ℕ → ℕ → ℕ
 tangentsPassed a b = countIf (λ t. leb (t * a) (b * 1000000)) tangents
 
--- M8: fifteen bins to a quarter
+-- M8: fifteen bins in a quarter
 unfoldable pub hueOf : Point → ℕ
 hueOf c = let t = turnedOf c in 15 * t .quarter + tangentsPassed (t .a) (t .b)
 

@@ -1,4 +1,4 @@
--- What holds of the measures of a pixel of bytes; proved in proofs/Ranges. Assumes nothing.
+-- What holds for the measures of a pixel of bytes; proved in proofs/Ranges. Assumes nothing.
 use Prim.Native.Nat.{ℕ, _+_, _*_, _≤_, _<_}
 use mathlib.Core.Path.{_≡_}
 use mathlib.Core.Bool.{false}
@@ -13,7 +13,7 @@ pub record Bytes (p : Pixel) : Type 0 where
   pub green : p .green < 256
   pub blue : p .blue < 256
 
--- M1, M3 and M8: the bins there are
+-- M1, M3 and M8: the ranges of the bins
 pub record InRange (m : Measures) : Type 0 where
   pub intensity : m .intensity ≤ 51
   pub saturation : m .saturation ≤ 41
@@ -22,7 +22,7 @@ pub record InRange (m : Measures) : Type 0 where
 abbrev pub AlwaysInRange : Type 0
 AlwaysInRange = (p : Pixel) → Bytes p → InRange (measuresOf p)
 
--- M2: the difference of natural numbers cuts nothing off
+-- M2: the subtraction of natural numbers cuts nothing off
 abbrev pub ChromaWhole : Type 0
 ChromaWhole = (p : Pixel)
     → chromaSquared p + (p .red * p .green + p .green * p .blue + p .blue * p .red) ≡ p .red * p .red + p .green * p .green + p .blue * p .blue
@@ -35,7 +35,7 @@ pub record SaturationLargest (p : Pixel) : Type 0 where
 abbrev pub AlwaysLargest : Type 0
 AlwaysLargest = (p : Pixel) → Bytes p → SaturationLargest p
 
--- M7: the two numbers that the hue bin is made of are the turned point's own, and a is positive
+-- M7: the two numbers that the hue bin is made from are the coordinates of the turned point, and a is positive
 pub record TurnedToFirst (c : Point) : Type 0 where
   pub aPositive : 0 < turnedOf c .a
   pub point : turnedBack (quarter c) c ≡ record { x = pos (turnedOf c .a); y = pos (turnedOf c .b) }

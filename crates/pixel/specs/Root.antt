@@ -1,6 +1,6 @@
--- Near a square root, for the saturation bin. No public promise cites it. Assumes nothing.
---   RootWithin   how near a number is
---   lineOf       straight lines that run near it, in 1024ths: for 0 to 39, to 199, to 699, and to 1734
+-- Approximating a square root, for the saturation bin. No public promise cites it. Assumes nothing.
+--   RootWithin   how near a number is to the root
+--   lineOf       straight lines that run near the root, in 1024ths: for 0 to 39, 40 to 199, 200 to 699, and 700 to 1734
 use Prim.Native.Nat.{ℕ, zero, suc, _+_, _*_, _≤_, _<_}
 use Rattle.pixel.specs.declared.Line.{Line}
 

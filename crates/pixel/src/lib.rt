@@ -38,13 +38,13 @@ struct Turned {
     b: u32,
 }
 
-// A straight line that is near the square root for some stretch, in 1024ths.
+// A straight line that approximates the square root over one stretch of numbers, in 1024ths.
 struct Line {
     start: u32,
     slope: u32,
 }
 
-// The two tangents between one of every third and the next.
+// Every third tangent starts a new group. These are the other two of a group.
 struct Inner {
     first: u32,
     second: u32,
@@ -56,28 +56,28 @@ fn intensity_bin(p: Pixel) -> u8
     ((p.red as u32 + p.green as u32 + p.blue as u32) / 15) as u8
 }
 
-// How far apart two numbers are.
+// The absolute difference of two numbers.
 fn apart(a: u32, b: u32) -> u32
     ensures { λ r. ⌜ r ≡ (a - b) + (b - a) ⌝ }
 {
     if a < b { b - a } else { a - b }
 }
 
-// 1 or 0. A count by sums of these needs no branch.
+// 1 if x reaches the bar, else 0. Adding these up counts without a branch.
 fn at_least(x: u32, bar: u32) -> u32
     ensures { λ r. ⌜ (r ≡ cond (leb bar x) 1 0) × (r ≤ 1) ⌝ }
 {
     if bar <= x { 1 } else { 0 }
 }
 
-// Compiled without a branch.
+// a or b. It compiles without a branch.
 fn chosen(test: bool, a: u32, b: u32) -> u32
     ensures { λ r. ⌜ (r ≡ cond test a b) × (r ≤ a + b) ⌝ }
 {
     if test { a } else { b }
 }
 
-// Q, of which saturation squared is 2Q/3: 4Q = (G+B−2R)² + 3·(G−B)².
+// Q, by 4Q = (G+B−2R)² + 3·(G−B)². The square of the saturation is 2Q/3.
 fn chroma_squared(p: Pixel) -> u32
     ensures { λ r. ⌜ r ≡ chromaSquared p ⌝ }
 {
@@ -88,7 +88,7 @@ fn chroma_squared(p: Pixel) -> u32
     (y * y + 3 * (x * x)) / 4
 }
 
-// The line for 0 to 39, to 199, to 699, and from 700 on. A match is compiled to a table that is only read; a constant array would be laid on the stack anew.
+// The line for 0 to 39, 40 to 199, 200 to 699, and 700 on. A match compiles to a read-only table; a constant array would be copied to the stack at each use.
 fn line_of(stretch: u32) -> Line
     requires { ⌜ stretch ≤ 3 ⌝ }
     ensures { λ r. ⌜ r ≡ lineOf stretch ⌝ }
@@ -113,7 +113,7 @@ fn line_of(stretch: u32) -> Line
     }
 }
 
-// The whole square root, or 1 below it.
+// The square root rounded down, or 1 less.
 fn near_root(x: u32) -> u32
     requires { ⌜ x ≤ 1734 ⌝ }
     ensures { λ r. ⌜ RootWithin 2 x r ⌝ }
@@ -122,7 +122,7 @@ fn near_root(x: u32) -> u32
     (line.start + line.slope * x) / 1024
 }
 
-// The largest j with 75j² ≤ 2Q, as the whole square root of 2Q/75.
+// The largest j with 75j² ≤ 2Q, computed as the square root of 2Q/75, rounded down.
 fn saturation_bin(q: u32) -> u8
     requires { ⌜ q ≤ 65025 ⌝ }
     ensures { λ r. ⌜ r ≡ saturationOf q ⌝ }
@@ -133,14 +133,14 @@ fn saturation_bin(q: u32) -> u8
     chosen(next * next <= x, next, near) as u8
 }
 
-// 1 where the slope that `bound` stands for reaches tangent t.
+// 1 if the slope b/a reaches tangent t, else 0. `bound` is 1000000·b.
 fn passes(t: u32, a: u32, bound: u64) -> u32
     ensures { λ r. ⌜ (r ≡ cond (leb (t * a) bound) 1 0) × (r ≤ 1) ⌝ }
 {
     if t as u64 * a as u64 <= bound { 1 } else { 0 }
 }
 
-// The tangents of 6° to 84°, in millionths, without every third one. Each group has its arm, so that the table is read with no test; no caller comes to the last.
+// The tangents of 6° to 84°, in millionths, without every third one. Each group has its own arm, so the table is read without a test; no caller reaches the last arm.
 fn inner_of(group: u32) -> Inner
     requires { ⌜ group ≤ 4 ⌝ }
     ensures { λ r. ⌜ (r .first ≡ getD tangents (3 * group) 0) × (r .second ≡ getD tangents (3 * group + 1) 0) ⌝ }
@@ -173,7 +173,8 @@ fn inner_of(group: u32) -> Inner
     }
 }
 
-// How many tangents the slope b/a reaches: of every third, then of the two before the next. They rise, so those before one that is reached are reached too.
+// How many tangents the slope b/a reaches. It tests every third one first, then the two before the next: the tangents rise, so all those before a reached one are
+// reached too.
 fn tangents_passed(a: u32, b: u32) -> u32
     ensures { λ r. ⌜ r ≡ tangentsPassed a b ⌝ }
 {
@@ -193,8 +194,8 @@ fn differ(a: bool, b: bool) -> bool
 }
 
 // The hue point, u = 1732051·(G−B) and v = 1000000·(G+B−2R), turned back. It lies in the upper half where v > 0, or v = 0 and u > 0, and in the right
-// half where u > 0, or u = 0 and v ≤ 0: one test each, since |G−B| is below 256 and |G+B−2R| below 512. Nothing here branches, for the noise of a cloth
-// would often make the branch foretold the wrong one.
+// half where u > 0, or u = 0 and v ≤ 0. One test decides each, since |G−B| is below 256 and |G+B−2R| below 512. Nothing here branches: with the noise
+// of a cloth, branches would often be mispredicted.
 fn turned_back(p: Pixel) -> Turned
     ensures { λ r. ⌜ r ≡ turnedOf (huePoint p) ⌝ }
 {
@@ -221,7 +222,7 @@ fn hue_of(p: Pixel) -> u8
     (15 * t.quarter + tangents_passed(t.a, t.b)) as u8
 }
 
-// The measures of one pixel. A grey takes no hue work, and its saturation is 0 or 1.
+// The measures of one pixel. A grey needs no hue computed, and its saturation bin is 0 or 1.
 pub fn measure(p: Pixel) -> Measures
     ensures { λ r. ⌜ r ≡ measuresOf p ⌝ }
 {

@@ -1,4 +1,4 @@
--- The laws of bins that are cut into blocks: the blocks are full and have the bins; where a block lies and what it sums; the block of a bin. Assumes nothing.
+-- The laws of bins that are cut into blocks: no block is empty, and the blocks have all bins; where a block lies and what its sum is; the block of a bin. Assumes nothing.
 --   Begins h bs n b    of the bins h, cut into the blocks bs, the block b begins at bin n
 --   PlaceOf h bs i p   the place p is that of bin i: its block begins where p says, and holds bin i
 use mathlib.Core.Path.{_≡_, refl, ap, _∙_}

@@ -1,4 +1,4 @@
--- The levels of a cut: as many as bins, what they sum up to a bin, and that they grow with the counts. Assumes nothing.
+-- The levels of a cut: there are as many as bins; their sum up to a bin; and they grow with the counts. Assumes nothing.
 --   upTo D bs t    the sum of the first t levels
 use mathlib.Core.Path.{_≡_, refl, sym, ap, _∙_}
 use mathlib.Core.List.{List}

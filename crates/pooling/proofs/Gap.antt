@@ -1,4 +1,4 @@
--- Over the bins of one block, and then over all, a sequence that does not fall is farther from the counts than the fit is, by its distance from the fit at least. Assumes nothing.
+-- Over the bins of one block, and then over all bins, a sequence that does not fall is farther from the counts than the fit is, at least by its distance from the fit. Assumes nothing.
 use mathlib.Core.Path.{_≡_, ap, subst}
 use mathlib.Core.List.{List, [], _∷_, _++_, map}
 use Prim.Native.Nat.{ℕ, zero, suc, _+_, _*_, _-_, _/_, _≤_}

@@ -1,5 +1,5 @@
--- Blocks that pooling makes for an increasing fit: no first part of a block has a mean below the block's, and means rise strictly. Assumes nothing.
--- Two neighbours of which the first has not the lower mean may become one, so pooling from the last bin to the first makes such blocks.
+-- Blocks that pooling makes for an increasing fit: the first bins of a block, however many, never have a mean below the block's, and means rise strictly. Assumes nothing.
+-- Two neighbours may become one unless the first has the lower mean, so pooling from the last bin to the first also makes such blocks.
 use mathlib.Core.Path.{_≡_, refl, sym, ap, subst}
 use mathlib.Core.List.{List, [], _∷_, _++_, append-assoc}
 use Prim.Native.Nat.{ℕ, suc, _+_, _*_, _-_, _≤_, _<_}

@@ -1,5 +1,5 @@
--- The laws of pooling: its blocks give the best sequence, and no other blocks do; from the last bin to the first they are the same; the other way they are
--- the mirror image's, mirrored. Assumes nothing.
+-- The laws of pooling: its blocks give the best sequence, and no other blocks do; pooling from the last bin to the first gives the same blocks; in the other
+-- direction they are those of the mirror image, mirrored. Assumes nothing.
 use mathlib.Core.Path.{_≡_, refl, sym, _∙_, ap, subst}
 use mathlib.Core.List.{List, [], _∷_, _++_, map, reverse, reverseAux, reverse-reverse, append-assoc, append-nil, reverseAux-append, reverseAux-eq}
 use Prim.Native.Nat.{ℕ}

@@ -1,5 +1,5 @@
--- Pooling from the last bin to the first: a block comes in front of the others. Assumes nothing.
--- `Laws` has that this makes the same blocks (`blocks-from-last`).
+-- Pooling from the last bin to the first: each new block is put in front of the others. Assumes nothing.
+-- `Laws` shows that this makes the same blocks (`blocks-from-last`).
 use mathlib.Core.Path.{_≡_}
 use mathlib.Core.Bool.{cond}
 use mathlib.Core.List.{List, [], _∷_}

@@ -1,4 +1,4 @@
--- The mirror image of the best sequence is the best the other way. Assumes nothing.
+-- The mirror image of the best sequence is the best one in the other direction. Assumes nothing.
 use mathlib.Core.Path.{_≡_, refl, sym, _∙_, ap, subst}
 use mathlib.Core.List.{List, [], _∷_, reverse, reverseAux, reverse-reverse}
 use Prim.Native.Nat.{ℕ, suc, _+_, _*_, _-_, _<_}

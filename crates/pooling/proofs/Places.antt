@@ -1,4 +1,4 @@
--- Each bin's place: as many as bins, with the blocks of the fit; the place of a bin of any blocks; two places are one, or lie apart. Assumes nothing.
+-- Each bin's place: there are as many places as bins, with the blocks of the fit; the place of a bin of any blocks; two places are the same or lie apart. Assumes nothing.
 use mathlib.Core.Path.{_≡_, refl, sym, _∙_, ap, subst}
 use mathlib.Core.List.{List, [], _∷_, _++_, map, append-nil, append-assoc}
 use Prim.Native.Nat.{ℕ, _+_, _-_, _≤_, _<_}

@@ -1,4 +1,4 @@
--- The stack of blocks in two arrays: its top, a store on top of it, a bin more, and the bounds of what it holds. Assumes nothing.
+-- The stack of blocks in two arrays: its top, a store on top of it, one more bin, and bounds on what it holds. Assumes nothing.
 use mathlib.Core.Path.{_≡_, refl, sym, _∙_, ap}
 use mathlib.Core.Bool.{Bool, true, false}
 use mathlib.Core.List.{List, [], _∷_, _++_}

@@ -1,4 +1,4 @@
--- Two sequences always have a common denominator; the best sequence is one, and so are its blocks. Assumes nothing.
+-- Two sequences always have a common denominator; there is only one best sequence, and only one list of blocks that gives it. Assumes nothing.
 use mathlib.Core.Path.{_≡_, refl, sym, _∙_, ap, subst}
 use mathlib.Core.List.{List, [], _∷_, _++_}
 use Prim.Native.Nat.{ℕ, zero, suc, _*_, _%_, _<_}

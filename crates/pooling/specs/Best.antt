@@ -40,7 +40,7 @@ pub record Comparable (f y : List Fraction) : Type 0 where
 abbrev pub DenominatorExists : Type 0
 DenominatorExists = (f y : List Fraction) → Proper f → Proper y → Comparable f y
 
--- P1: the bins cut into parts that are not empty, each with its sum and length
+-- P1: the bins, cut into rows that are not empty, each kept as its sum and length
 pub data CutInto : List ℕ → List Block → Type 0 where
   empty : CutInto [] []
   first : (x : List ℕ) {h : List ℕ} {bs : List Block} → 0 < length x → CutInto h bs → CutInto (x ++ h) (record { sum = total x; len = length x } ∷ bs)
@@ -50,18 +50,18 @@ pub record Pooled (w : Direction) (h : List ℕ) : Type 0 where
   pub cut : CutInto h (blocks w h)
   pub strict : Strict w (blocks w h)
   pub best : Best w h (means (blocks w h))
-  -- so the comparison in `best` is never empty
+  -- so the comparison in `best` is never vacuous
   pub comparable : (y : List Fraction) → Proper y → Comparable (means (blocks w h)) y
 
 -- proved in proofs/Always, as are the two below
 abbrev pub AlwaysPooled : Type 0
 AlwaysPooled = (w : Direction) (h : List ℕ) → Pooled w h
 
--- no other blocks will do: those that the bins are cut into, with strict means and the best sequence, are the blocks of the fit
+-- no other blocks will do: if the bins are cut into blocks whose means are strict and are the best sequence, these are the blocks of the fit
 abbrev pub BlocksUnique : Type 0
 BlocksUnique = (w : Direction) (h : List ℕ) (bs : List Block) → CutInto h bs → Strict w bs → Best w h (means bs) → bs ≡ blocks w h
 
--- P3: its blocks, and each bin's block, are those of the reversed stretch, in reverse
+-- P3: the blocks of a decreasing fit, and each bin's block, are those of the increasing fit of the reversed stretch, in reverse
 pub record Mirrored (h : List ℕ) : Type 0 where
   pub blocksMirrored : blocks decreasing h ≡ reverse (blocks increasing (reverse h))
   pub fitMirrored : fitted decreasing h ≡ reverse (fitted increasing (reverse h))

@@ -15,7 +15,7 @@ pub data Direction : Type 0 where
   increasing : Direction
   decreasing : Direction
 
--- A1: the direction that a call is told
+-- A1: the direction that a call is given
 abbrev pub direction : (rising : Bool) → Direction
 direction true = increasing
 direction false = decreasing
@@ -39,7 +39,7 @@ StepsTo decreasing a b = Below b a
 abbrev pub merged : Block → Block → Block
 merged a b = record { sum = a .sum + b .sum; len = a .len + b .len }
 
--- P2: a block comes on top of a stack of blocks. While the step from the top to it is not strict, the two become one
+-- P2: a block is pushed onto a stack of blocks. While the step from the top block to it is not strict, the two become one
 unfoldable pub push : Direction → Block → List Block → List Block
 push w b [] = b ∷ []
 push w b (a ∷ stack) = cond (stepsTo w a b) (b ∷ a ∷ stack) (push w (merged a b) stack)
@@ -62,7 +62,7 @@ spread (b ∷ bs) = replicate (b .len) b ++ spread bs
 unfoldable pub fitted : Direction → List ℕ → List Block
 fitted w h = spread (blocks w h)
 
--- the place of each bin of these blocks, of which the first begins at bin s
+-- the place of each bin of these blocks; the first block begins at bin s
 unfoldable pub placesFrom : ℕ → List Block → List Place
 placesFrom s [] = []
 placesFrom s (b ∷ bs) = replicate (b .len) (record { start = s; block = b }) ++ placesFrom (s + b .len) bs
@@ -70,7 +70,7 @@ placesFrom s (b ∷ bs) = replicate (b .len) (record { start = s; block = b }) +
 unfoldable pub places : Direction → List ℕ → List Place
 places w h = placesFrom 0 (blocks w h)
 
--- blocks whose means change strictly in the direction
+-- blocks whose means change strictly in the direction of the fit
 abbrev pub StrictFrom : Direction → Block → List Block → Type 0
 StrictFrom w b [] = Unit {0}
 StrictFrom w b (c ∷ cs) = StepsTo w b c × StrictFrom w c cs

@@ -1,12 +1,12 @@
 -- How the code holds blocks while it pools: as a stack in two arrays. No public promise cites it. Assumes nothing.
 --   stackOf            the stack that the first places hold
---   sumIn, binsIn      what its blocks count in all, and how many bins they have: the bounds that keep the code's numbers small
+--   sumIn, binsIn      the sum of all its blocks, and how many bins they have; bounds on both keep the code's numbers small
 use mathlib.Core.List.{List, [], _∷_}
 use Prim.Native.Nat.{ℕ, zero, suc, _+_}
 use lib.ListN.{getD}
 use Rattle.pooling.specs.Blocks.{Block}
 
--- the first n places of the sums and of the lengths, the last on top
+-- the blocks in the first n places of the sums and of the lengths, the last on top
 unfoldable pub stackOf : List ℕ → List ℕ → ℕ → List Block
 stackOf sums lens zero = []
 stackOf sums lens (suc k) = record { sum = getD sums k 0; len = getD lens k 0 } ∷ stackOf sums lens k

@@ -8,11 +8,11 @@ ghost use Rattle.pooling.specs.Blocks.{Block, Place, direction, stepsTo,
 ghost use Rattle.pooling.specs.Blocks as Blocks;
 ghost use Rattle.pooling.specs.Stack.{stackOf, sumIn, binsIn};
 
-// A ring of 256 bins is opened at its lowest bin, which is repeated: 257 bins. Of a sum of 65,536 the lowest of two or more bins
-// has at most half, so the sum is at most 98,304.
+// A ring of 256 bins is opened at its lowest bin, which is repeated at the end: 257 bins. The lowest of two or more bins holds at
+// most half of a sum of 65,536, so the sum with the repeated bin is at most 98,304.
 pub const MOST_BINS: usize = 257;
 
-// A block of neighbouring bins, whose sum and length stand for its mean.
+// A block of neighbouring bins. Its sum and length stand for its mean, sum / len.
 pub struct Block {
     pub sum: u64,
     pub len: u64,
@@ -24,7 +24,7 @@ pub struct Place {
     pub block: Block,
 }
 
-// From the mean s/l to the mean t/m is a strict step in the direction of the fit.
+// Whether the step from mean s/l to mean t/m is strictly in the direction of the fit.
 fn steps_to(rising: bool, s: u32, l: u32, t: u32, m: u32) -> bool
     requires { ⌜ (s ≤ 98304) × (l ≤ 257) × (t ≤ 98304) × (m ≤ 257) ⌝ }
     ensures { λ r. ⌜ r ≡ stepsTo (direction rising) (record { sum = s; len = l }) (record { sum = t; len = m }) ⌝ }
@@ -32,7 +32,7 @@ fn steps_to(rising: bool, s: u32, l: u32, t: u32, m: u32) -> bool
     if rising { s * m < t * l } else { t * l < s * m }
 }
 
-// One bin comes on top of the stack of blocks in the first n places: how many blocks there are then.
+// Pushes one bin onto the stack of blocks in the first n places. Returns how many blocks there are then.
 fn push(sums: &mut [u32], lens: &mut [u32], n: usize, rising: bool, x: u32) -> usize
     requires { ⌜ (n < length (now sums))
         × (n < length (now lens))
@@ -60,7 +60,7 @@ fn push(sums: &mut [u32], lens: &mut [u32], n: usize, rising: bool, x: u32) -> u
     top + 1
 }
 
-// The stack of the blocks of all bins: how many there are.
+// Makes the stack of the blocks of all bins. Returns how many blocks there are.
 fn pool(h: &[u32], rising: bool, sums: &mut [u32], lens: &mut [u32]) -> usize
     requires { ⌜ (length (now h) ≤ 257) × (total (now h) ≤ 98304) × (length (now h) ≤ length (now sums)) × (length (now h) ≤ length (now lens)) ⌝ }
     ensures { λ r. ⌜ stackOf (now (sums .exit)) (now (lens .exit)) r ≡ pushAll (direction rising) (now (h .entry)) [] ⌝ }
@@ -74,7 +74,7 @@ fn pool(h: &[u32], rising: bool, sums: &mut [u32], lens: &mut [u32]) -> usize
     n
 }
 
-// One value in the places from `from` up to the one before `to`.
+// Writes one value into the places from `from` up to, but not including, `to`.
 fn fill(a: &mut [u32], from: usize, to: usize, v: u32)
     requires { ⌜ (from ≤ to) × (to ≤ length (now a)) ⌝ }
     ensures { λ _. ⌜ now (a .exit) ≡ over (take from (now (a .entry)) ++ replicate (to - from) v) (now (a .entry)) ⌝ }
@@ -86,7 +86,7 @@ fn fill(a: &mut [u32], from: usize, to: usize, v: u32)
     }
 }
 
-// Each bin's place: the first bin, the sum and the length of its block.
+// Writes each bin's place: the first bin, the sum and the length of its block.
 pub fn fit_places(h: &[u32], rising: bool, starts: &mut [u32], sums: &mut [u32], lens: &mut [u32])
     requires { ⌜ (length (now h) ≤ 257)
         × (total (now h) ≤ 98304)

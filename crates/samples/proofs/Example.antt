@@ -1,4 +1,4 @@
--- The card program's example, black beside red, worked out by the checker. Assumes nothing.
+-- The card program's example, black beside red, computed by the checker. Assumes nothing.
 use mathlib.Core.Path.{refl}
 use mathlib.Core.List.{flatMap}
 use Rattle.lists.specs.Lists.{part, numbers, filter, countIf, all, firstThat, firstIndex, largestThat, firstLowest, largest, whole}

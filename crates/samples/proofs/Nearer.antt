@@ -1,4 +1,4 @@
--- A negative number, one nearer to zero and then turned positive, fits, as the machine has it. Assumes nothing.
+-- A negative machine number, moved 1 closer to zero and then negated, fits. Assumes nothing.
 use Prim.Native.Nat.{ℕ, zero, suc, _^_, _≤_, _<_}
 use mathlib.Core.Path.{_≡_, sym, ap, _∙_}
 use mathlib.Core.Bool.{true, false, false≢true}

@@ -1,4 +1,4 @@
--- Rows that plausible misreadings of the rules get wrong; each comment says what its rows hold fast. proofs/Tables has one proof of them all. Assumes nothing.
+-- Rows that plausible misreadings of the rules get wrong; each comment says what its rows pin down. proofs/Tables has one proof of them all. Assumes nothing.
 use mathlib.Core.Bool.{true, false}
 use mathlib.Core.List.{List, [], _∷_}
 use lib.IntN.{pos, negsuc}
@@ -28,7 +28,7 @@ guards =
     ∷ fit increasing (1 ∷ 2 ∷ 3 ∷ 0 ∷ []) (block 1 1 ∷ block 5 3 ∷ block 5 3 ∷ block 5 3 ∷ [])
     -- a decreasing fit is the mirror image
     ∷ fit decreasing (0 ∷ 3 ∷ 2 ∷ 1 ∷ []) (block 5 3 ∷ block 5 3 ∷ block 5 3 ∷ block 1 1 ∷ [])
-    -- in one block B is its length, not that times itself
+    -- in one block B is its length, not its length squared
     ∷ mass increasing (4 ∷ 2 ∷ 1 ∷ []) 0 1 14 3
     -- across blocks B is the product of the two lengths, not their least common multiple
     ∷ mass increasing (4 ∷ 3 ∷ 1 ∷ 10 ∷ 9 ∷ 0 ∷ []) 1 4 162 9
@@ -37,15 +37,15 @@ guards =
     ∷ verdict 0 increasing (20 ∷ 0 ∷ []) (pos 308953062) true
     -- a cost of exactly 0 rejects
     ∷ verdict 0 increasing (0 ∷ 0 ∷ 2 ∷ 0 ∷ 0 ∷ 0 ∷ 0 ∷ 0 ∷ []) (pos 0) true
-    -- the closeness raises the bar by a bit each
+    -- each step of the closeness raises the bar by one bit
     ∷ verdict 1 increasing (0 ∷ 0 ∷ 2 ∷ 0 ∷ 0 ∷ 0 ∷ 0 ∷ 0 ∷ []) (negsuc 16777215) false
-    -- a stretch that goes the tested way costs minus the bar
+    -- a stretch that is monotone in the tested direction costs minus the bar
     ∷ verdict 0 increasing (1 ∷ 2 ∷ 2 ∷ []) (negsuc 43368473) false
     -- a stretch of one bin is never rejected, whatever its cost
     ∷ verdict 0 increasing (5 ∷ []) (pos 0) false
     -- the first bin of a run of equal bins
     ∷ line 0 (3 ∷ 0 ∷ 0 ∷ 3 ∷ []) (0 ∷ 1 ∷ 3 ∷ [])
-    -- the run's higher neighbours are those past its ends
+    -- the higher neighbours of a run are the bins past its ends
     ∷ line 0 (3 ∷ 0 ∷ 0 ∷ 3 ∷ 2 ∷ 2 ∷ []) (0 ∷ 1 ∷ 5 ∷ [])
     -- the first highest bin of a plateau is the peak
     ∷ modes 0 (4 ∷ 0 ∷ 4 ∷ 4 ∷ []) (mode 0 0 1 ∷ mode 1 2 3 ∷ [])
@@ -54,22 +54,22 @@ guards =
     -- the smaller of the two costs counts, and it may be the rise's or the fall's
     ∷ modes 0 (1 ∷ 0 ∷ 4 ∷ []) (mode 0 2 2 ∷ [])
     ∷ modes 0 (4 ∷ 0 ∷ 1 ∷ []) (mode 0 0 2 ∷ [])
-    -- the fall if equal
+    -- of equal costs, the fall
     ∷ line 0 (0 ∷ 5 ∷ 2 ∷ 5 ∷ 0 ∷ 4 ∷ []) (0 ∷ 5 ∷ [])
-    -- the leftmost of equals
+    -- of equal costs, the leftmost run
     ∷ line 0 (5 ∷ 0 ∷ 1 ∷ 0 ∷ 5 ∷ []) (0 ∷ 3 ∷ 4 ∷ [])
-    -- the lowest cost, not the first below 0
+    -- the lowest cost, not the first one below 0
     ∷ line 0 (5 ∷ 0 ∷ 3 ∷ 2 ∷ 5 ∷ []) (0 ∷ 1 ∷ 4 ∷ [])
     -- a longer run may be joined where no pair can
     ∷ modes 0 (0 ∷ 5 ∷ 0 ∷ 5 ∷ 0 ∷ 5 ∷ 0 ∷ []) (mode 0 1 6 ∷ [])
-    -- after a join start again with runs of 2
+    -- after a join the search starts again with runs of 2
     ∷ line 0 (5 ∷ 0 ∷ 5 ∷ 0 ∷ 5 ∷ 0 ∷ 5 ∷ []) (0 ∷ 6 ∷ [])
     -- the last mode takes the last bin, and ends there
     ∷ inLine 0 (1 ∷ 0 ∷ 4 ∷ []) 0 2 true
     ∷ inLine 0 (1 ∷ 0 ∷ 4 ∷ []) 0 3 false
-    -- a ring is opened away from bin 0, at the first of equal lowest bins; its own numbers; modes from the opening
+    -- a ring opened away from bin 0, at the first of equal lowest bins; separators by its own numbers, modes from the opening
     ∷ ring 0 (9 ∷ 1 ∷ 9 ∷ 0 ∷ 9 ∷ 0 ∷ []) (3 ∷ 5 ∷ 1 ∷ []) (1 ∷ 2 ∷ 2 ∷ 0 ∷ 0 ∷ 1 ∷ [])
-    -- a flat minimum over the seam
+    -- a flat minimum across the seam
     ∷ ring 0 (0 ∷ 0 ∷ 9 ∷ 1 ∷ 9 ∷ 0 ∷ []) (0 ∷ 3 ∷ []) (0 ∷ 0 ∷ 0 ∷ 1 ∷ 1 ∷ 1 ∷ [])
     ∷ []
 

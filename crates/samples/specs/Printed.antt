@@ -5,7 +5,7 @@ use mathlib.Core.List.{List, [], _∷_, _++_}
 use lib.ListN.{replicate}
 use Rattle.kistrovu.specs.Answers.{printed}
 
--- a field: so many spaces, and then these bytes
+-- a field: n spaces, and then these bytes
 abbrev pub spaced : ℕ → List ℕ → List ℕ
 spaced n bytes = replicate n 32 ++ bytes
 
@@ -16,7 +16,7 @@ blackBesideRed =
     ++ spaced 3 (48 ∷ []) ++ spaced 3 (48 ∷ []) ++ spaced 3 (48 ∷ 10 ∷ [])
     ++ spaced 1 (50 ∷ 53 ∷ 53 ∷ []) ++ spaced 3 (48 ∷ []) ++ spaced 3 (48 ∷ 10 ∷ [])
 
--- two entries of one pixel each, in 6 columns a figure
+-- two entries of one pixel each, every figure in 6 columns
 abbrev pub itsCard : List ℕ
 itsCard =
     spaced 5 (50 ∷ []) ++ spaced 5 (50 ∷ []) ++ spaced 5 (48 ∷ 10 ∷ [])

@@ -32,7 +32,7 @@ pub data Sample : Type 0 where
   -- the separators of a line; its modes, each with its peak
   line : Closeness → (bins : List ℕ) → (separators : List ℕ) → Sample
   modes : Closeness → (bins : List ℕ) → List Segment → Sample
-  -- bin b lies in mode m of a line, or not
+  -- whether bin b lies in mode m of a line
   inLine : Closeness → (bins : List ℕ) → (m b : ℕ) → Bool → Sample
   -- the separators of a ring from its opening on, and each bin's mode
   ring : Closeness → (bins : List ℕ) → (separators : List ℕ) → (modes : List ℕ) → Sample

@@ -1,4 +1,4 @@
--- The samples that every engine is to give, as one table. proofs/Tables has one proof of all its rows. Assumes nothing.
+-- The samples that every engine must reproduce, as one table. proofs/Tables has one proof of all its rows. Assumes nothing.
 use mathlib.Core.Bool.{true, false}
 use mathlib.Core.List.{List, [], _∷_}
 use Rattle.pooling.specs.Blocks.{increasing}
@@ -17,7 +17,7 @@ starred =
     ∷ measures 255 0 0 17 41 45 false
     ∷ measures 100 0 200 20 28 30 false
     ∷ measures 100 200 0 20 28 0 false
-    -- P2: all in one block; a block of its own and one of two bins
+    -- P2: all bins in one block; a block of one bin and one of two
     ∷ fit increasing (3 ∷ 1 ∷ 2 ∷ []) (block 6 3 ∷ block 6 3 ∷ block 6 3 ∷ [])
     ∷ fit increasing (1 ∷ 3 ∷ 2 ∷ []) (block 1 1 ∷ block 5 2 ∷ block 5 2 ∷ [])
     -- S7: too few counts to keep two modes apart; enough of them up to closeness 13, and not at 14

@@ -1,5 +1,5 @@
 // Samples of pixels, fits, verdicts and modes, as the public calls answer them. Those in `starred` are also proved, from the table in specs/;
-// the others are only run here, and what is printed is compared with the file stdout.
+// the others are only run here. What is printed is compared with the file stdout.
 use kistrovu::ModesAnswer;
 use kistrovu::kistrovu_fit;
 use kistrovu::kistrovu_line_modes;
@@ -16,7 +16,7 @@ fn number(n: u64) {
     io::print_decimal(1, n);
 }
 
-// A signed number. Its size is taken one nearer to zero first, so that the least number has one too.
+// A signed number. A negative one is moved 1 closer to zero before its sign is dropped, so that the least number works too.
 fn signed(x: i64) {
     if x < 0 {
         io::write_all(1, b" -");
@@ -57,7 +57,7 @@ fn measures(red: u8, green: u8, blue: u8) {
     text(b"\n");
 }
 
-// The first of an answer's 256 places.
+// The first few of an answer's 256 places.
 fn places(figures: [u32; 256], first: usize) {
     let mut i = 0;
     while i < first && i < 256 {
@@ -115,7 +115,7 @@ fn unnamed(what: &[u8], h: &[u32], rising: bool, closeness: u32) {
     verdict(h, rising, closeness);
 }
 
-// The answer of a modes call, and the first of the list that was lent.
+// The answer of a modes call, and the first places of the list that was lent.
 fn modes(m: ModesAnswer, closeness: u32, list: &[u32]) {
     text(b", closeness");
     number(closeness as u64);
@@ -128,7 +128,7 @@ fn modes(m: ModesAnswer, closeness: u32, list: &[u32]) {
     text(b"\n");
 }
 
-// The list is lent with 99 in each of its 8 places; those past the last separator stay.
+// The list is lent with 99 in each of its 8 places; the places past the last separator keep it.
 fn line(h: &[u32], closeness: u32) {
     let mut list = [99u32; 8];
     let m = kistrovu_line_modes(h, closeness, &mut list);

@@ -1,4 +1,4 @@
--- A join of segments that are held in two lists, and what the joins leave. Assumes nothing.
+-- A join of segments that two lists hold, and what is left after the joins. Assumes nothing.
 use Prim.Native.Nat.{ℕ, zero, suc, _+_, _-_, _≤_, _<_}
 use mathlib.Core.Path.{_≡_, refl, sym, ap, _∙_}
 use mathlib.Core.Bool.{Bool, true, false, cond, not, false≢true}

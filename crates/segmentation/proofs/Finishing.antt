@@ -1,4 +1,4 @@
--- The joins put together: what every join keeps holds of the modes of a line, and a finished line is what D3 says. Assumes nothing.
+-- The joins put together: what every join preserves holds for the modes of a line, and a finished line is as D3 says. Assumes nothing.
 use Prim.Native.Nat.{ℕ, suc, _-_, _≤_, _<_}
 use mathlib.Core.Path.{_≡_, ap, subst, _∙_}
 use mathlib.Core.Bool.{true}

@@ -1,4 +1,4 @@
--- Between two neighbouring separators the bins rise to the peak and fall after it: else there would be a valley between. Assumes nothing.
+-- Between two neighbouring separators the bins rise to the peak and fall after it: otherwise there would be a valley between them. Assumes nothing.
 use Prim.Native.Nat.{ℕ, zero, suc, _+_, _-_, _≤_, _<_}
 use mathlib.Core.Path.{_≡_, refl, sym, ap, _∙_}
 use mathlib.Core.Bool.{true, false≢true}

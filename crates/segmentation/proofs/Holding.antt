@@ -1,4 +1,4 @@
--- How many segments are held, and which. Assumes nothing.
+-- How many segments the lists hold, and which. Assumes nothing.
 use Prim.Native.Nat.{ℕ, zero, suc, _+_, _<_}
 use mathlib.Core.Path.{_≡_, refl, ap}
 use mathlib.Core.List.{List}

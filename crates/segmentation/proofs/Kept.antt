@@ -1,4 +1,4 @@
--- What a join keeps: the cut of the line into modes, the peaks off the inner separators, the counts of each mode, and single humps. Assumes nothing.
+-- What a join preserves: the cut of the line into modes, peaks that are not on inner separators, counts in each mode, and single humps. Assumes nothing.
 use Prim.Native.Nat.{ℕ, zero, suc, _+_, _-_, _≤_, _<_}
 use mathlib.Core.Path.{_≡_, refl, sym, ap, subst, _∙_}
 use mathlib.Core.Bool.{Bool, true, false, cond, _&&_, and-false}

@@ -1,4 +1,4 @@
--- A stretch that already goes the tested way is never rejected: its cost is minus the bar, and the bar is above 0 from two bins on. Assumes nothing.
+-- A stretch that is already monotone in the tested direction is never rejected: its cost is minus the bar, and from two bins on the bar is above 0. Assumes nothing.
 use Prim.Native.Nat.{ℕ, zero, suc, _+_, _*_, _-_, _/_, _^_, _≤_, _<_}
 use mathlib.Core.Path.{_≡_, refl, ap, _∙_}
 use mathlib.Core.Bool.{Bool, true, false, _&&_}

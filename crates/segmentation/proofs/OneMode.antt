@@ -1,4 +1,4 @@
--- Each bin of a line that is cut into modes lies in exactly one of them: the last that starts at or before it. Assumes nothing.
+-- Each bin of a line that is cut into modes lies in exactly one of them: the last one that starts at or before the bin. Assumes nothing.
 use Prim.Native.Nat.{ℕ, suc, _-_, _≤_, _<_}
 use mathlib.Core.Path.{_≡_, refl, ap}
 use mathlib.Core.Bool.{Bool, true, false, _&&_, _||_, or-true}

@@ -1,4 +1,4 @@
--- A ring is finished where its opened line is, and its separators are all different. Assumes nothing.
+-- A ring is finished if its opened line is, and its separators are all different. Assumes nothing.
 use Prim.Native.Nat.{ℕ, zero, suc, _+_, _-_, _%_, _≤_, _<_}
 use mathlib.Core.Path.{_≡_, refl, sym, ap, _∙_}
 use mathlib.Core.List.{List, [], _∷_, map, map-map}

@@ -1,4 +1,4 @@
--- The opened line of a ring: its first bin is the ring's first lowest, each bin of the ring has one place on it, and its sum is at most half as much again.
+-- The opened line of a ring: its first bin is the first of the ring's lowest bins, each bin of the ring has one place on it, and its sum is at most 1.5 times the ring's.
 -- Assumes nothing.
 use Prim.Native.Nat.{ℕ, suc, _+_, _*_, _-_, _%_, _≤_, _<_}
 use mathlib.Core.Path.{_≡_, sym, ap, _∙_}

@@ -1,4 +1,4 @@
--- The search for the next join: the stretches of a run lie within the line, the choice of its cost, and the search from left to right. Assumes nothing.
+-- The search for the next join: the stretches of a run lie within the line; how its cost is chosen; and the search from left to right. Assumes nothing.
 use Prim.Native.Nat.{ℕ, zero, suc, _+_, _-_, _^_, _≤_, _<_}
 use mathlib.Core.Path.{_≡_, refl, sym, ap, subst, _∙_}
 use mathlib.Core.Bool.{Bool, true, false, cond, false≢true}

@@ -1,4 +1,4 @@
--- The join that comes next, what holds after all joins, and that nothing is left to join: no run of two or more modes of a line has a cost below 0. Assumes nothing.
+-- The next join, what holds after all joins, and that nothing is left to join: no run of two or more modes of a line has a cost below 0. Assumes nothing.
 use Prim.Native.Nat.{ℕ, zero, suc, _+_, _-_, _≤_, _<_}
 use mathlib.Core.Path.{_≡_, refl, subst}
 use mathlib.Core.Bool.{true}

@@ -1,4 +1,4 @@
--- Laws of valleys: a bin that falls is one exactly when the first step after it that is not level goes up. Assumes nothing.
+-- Laws of valleys: a bin below the one before it is a valley exactly if the first step after it that is not level goes up. Assumes nothing.
 use Prim.Native.Nat.{ℕ, suc, _-_, _≤_, _<_}
 use mathlib.Core.Path.{_≡_, refl, sym, ap, _∙_}
 use mathlib.Core.Bool.{Bool, true, false, cond, _&&_, false≢true}

@@ -1,4 +1,4 @@
--- Laws of the walk along a line: the separators found, with the one where the bins last fell if they are to rise, are those of the bins passed. Assumes nothing.
+-- Laws of the walk along a line: the separators found, plus the bin where the counts last fell if they rise next, are those of the bins passed. Assumes nothing.
 use Prim.Native.Nat.{ℕ, zero, suc, _+_, _-_, _≤_, _<_}
 use mathlib.Core.Path.{_≡_, refl, sym, ap, _∙_}
 use mathlib.Core.Bool.{Bool, true, false, cond, and-false}

@@ -1,5 +1,5 @@
--- D3 on one histogram: no run of modes can still be joined, each mode is a single hump, each bin lies in exactly one mode,
--- and behind every verdict stands its fit. Assumes nothing.
+-- D3 for one histogram: no run of modes is joinable, each mode is a single hump, each bin lies in exactly one mode,
+-- and every verdict has its fit behind it. Assumes nothing.
 use Prim.Native.Nat.{ℕ, suc, _+_, _-_, _≤_, _<_}
 use mathlib.Core.Path.{_≡_}
 use mathlib.Core.Bool.{false}
@@ -16,7 +16,7 @@ use Rattle.segmentation.specs.Segments.{Segment, segmentAt, binAt, inMod
 use Rattle.segmentation.specs.Joining.{Reader, lineReader, riseOf, fallOf, riseCost, fallCost, lineModes, lineSeparators}
 use Rattle.segmentation.specs.Ring.{opening, opened, ringBin, linePlace, ringModes, ringSeparators, inRingMode}
 
--- a line of so many bins is cut into the modes ss: they follow one another from bin 0 to the last bin, and each has its peak between its separators
+-- a line of `bins` bins is cut into the modes ss: they follow one another from bin 0 to the last bin, and each has its peak between its separators
 pub record Cut (bins : ℕ) (ss : List Segment) : Type 0 where
   pub nonEmpty : 0 < length ss
   pub fromFirstBin : segmentAt ss 0 .start ≡ 0
@@ -25,19 +25,19 @@ pub record Cut (bins : ℕ) (ss : List Segment) : Type 0 where
   pub ascending : (m : ℕ) → m < length ss → segmentAt ss m .start < segmentAt ss m .end
   pub peakInside : (m : ℕ) → m < length ss → (segmentAt ss m .start ≤ segmentAt ss m .peak) × (segmentAt ss m .peak ≤ segmentAt ss m .end)
 
--- S9: the rise of mode m, and its fall
+-- S9: neither the rise of mode m nor its fall is rejected
 pub record SingleHump (e : Closeness) (read : Reader) (ss : List Segment) (m : ℕ) : Type 0 where
   pub rise : rejected e increasing (riseOf read ss m 1) ≡ false
   pub fall : rejected e decreasing (fallOf read ss m 1) ≡ false
 
--- a line of so many bins, with this reader of its stretches and with the modes ss
+-- a line of `bins` bins whose modes are ss; `read` gives the bins of its stretches
 pub record Finished (e : Closeness) (read : Reader) (bins : ℕ) (ss : List Segment) : Type 0 where
   pub cut : Cut bins ss
-  -- S4: no run of two or more, whatever its start i and length n, is joinable: neither of its costs is below 0
+  -- S4: no run of two or more modes, whatever its start i and length n, is joinable: neither of its costs is below 0
   pub noneJoinable : (i n : ℕ) → 2 ≤ n → i + n ≤ length ss → (pos 0 ≤ℤ riseCost e read ss i n) × (pos 0 ≤ℤ fallCost e read ss i n)
   pub humps : (m : ℕ) → m < length ss → SingleHump e read ss m
   pub oneMode : (b : ℕ) → b < bins → ExactlyOne (length ss) (λ m. inMode ss m b)
-  -- behind the verdict of every stretch, in either direction: those of the runs and the humps are among them
+  -- what stands behind the verdict of every stretch, in either direction; the stretches of the runs and of the humps are among them
   pub verdicts : (w : Direction) (i j : ℕ) → i ≤ j → j < bins → VerdictSound e w (read i j)
 
 pub record LineFinished (e : Closeness) (h : List ℕ) : Type 0 where
@@ -47,20 +47,20 @@ pub record LineFinished (e : Closeness) (h : List ℕ) : Type 0 where
 
 -- a ring is judged on its opened line; its own bins are those of the line without the repeated end
 pub record RingFinished (e : Closeness) (h : List ℕ) : Type 0 where
-  -- R1: the opening is the lowest bin, and the first of such
+  -- R1: the opening is the lowest bin, the first if there are several
   pub inRing : opening h < length h
   pub lowest : (b : ℕ) → b < length h → binAt h (opening h) ≤ binAt h b
   pub lowestNumbered : (b : ℕ) → b < opening h → binAt h (opening h) < binAt h b
-  -- R2: the line is the ring from that bin on, with it repeated after the end
+  -- R2: the line is the ring from that bin on, with that bin repeated at the end
   pub openedLength : length (opened h) ≡ suc (length h)
   pub openedBins : (i : ℕ) → i ≤ length h → binAt (opened h) i ≡ binAt h (ringBin h i)
-  -- each bin of the ring has one place on the line, and sits there
+  -- each bin of the ring has a place on the line, and stands there
   pub place : (b : ℕ) → b < length h → (linePlace h b < length h) × (ringBin h (linePlace h b) ≡ b)
   pub sameBin : (b : ℕ) → b < length h → binAt (opened h) (linePlace h b) ≡ binAt h b
   pub line : LineFinished e (opened h)
   pub oneMode : (b : ℕ) → b < length h → ExactlyOne (length (ringModes e h)) (λ m. inRingMode e h m b)
 
--- R5: the list is a permutation of the ring's separators, and none stands in it twice
+-- R5: the list is a permutation of the ring's separators, and has none of them twice
 pub record ListsOnce (e : Closeness) (h : List ℕ) (list : List ℕ) : Type 0 where
   pub same : (b : ℕ) → countIf (eqb b) list ≡ countIf (eqb b) (ringSeparators e h)
   pub once : (b : ℕ) → countIf (eqb b) list ≤ 1

@@ -1,4 +1,4 @@
--- What stays true of the modes of a line from its first segments on: inner peaks lie strictly between separators, and no mode is empty. No public promise cites it. Assumes nothing.
+-- What stays true from the first segments of a line to its modes: inner peaks lie strictly between separators, and no mode is empty. No public promise cites it. Assumes nothing.
 use Prim.Native.Nat.{ℕ, suc, _-_, _<_}
 use mathlib.Core.Bool.{cond}
 use mathlib.Core.List.{List}
@@ -7,7 +7,7 @@ use lib.ListN.{length, take, drop}
 use Rattle.lists.specs.Lists.{total}
 use Rattle.segmentation.specs.Segments.{Segment, segmentAt}
 
--- only the first peak may be bin 0, and only the last one the last bin
+-- only the first peak may be bin 0, and only the last peak may be the last bin
 pub record Inside (ss : List Segment) : Type 0 where
   pub afterStart : (m : ℕ) → 0 < m → m < length ss → segmentAt ss m .start < segmentAt ss m .peak
   pub beforeEnd : (m : ℕ) → suc m < length ss → segmentAt ss m .peak < segmentAt ss m .end

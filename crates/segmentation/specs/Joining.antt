@@ -2,7 +2,7 @@
 --   Reader         the bins of a stretch, from bin i to bin j; of a line, its parts
 --   riseOf, fallOf the two stretches of a run of n segments from number i; of a run of one, a mode's rise and fall
 --   Join           a run that may be joined, and the cost that counts
---   nextJoin       the join that comes next, if any
+--   nextJoin       the next join, if any
 --   lineModes      what is left when there is none
 use Prim.Native.Nat.{ℕ, zero, suc, _+_, _-_}
 use mathlib.Core.Bool.{cond}
@@ -15,7 +15,7 @@ use Rattle.lists.specs.Lists.{part, numbers, firstLowest, firstThat, maybe}
 use Rattle.pooling.specs.Blocks.{increasing, decreasing}
 use Rattle.verdict.specs.Test.{Closeness, cost}
 use Rattle.segmentation.specs.Segments.{Segment, segmentAt, firstSegments}
--- the run of len segments from number first; whether its rise is what counts, or its fall; and that one's cost
+-- the run of len segments from segment number `first` on, whether its rise or its fall counts, and the cost of that one
 pub use Rattle.segmentation.specs.declared.Join.{Join}
 
 abbrev pub Reader : Type 0
@@ -24,7 +24,7 @@ Reader = ℕ → ℕ → List ℕ
 abbrev pub lineReader : List ℕ → Reader
 lineReader h i j = part i j h
 
--- the last segment of a run, which has one or more: the difference is never negative
+-- the last segment of a run. A run has one segment or more, so the difference is never negative
 abbrev pub lastIn : List Segment → ℕ → ℕ → Segment
 lastIn ss i n = segmentAt ss (i + n - 1)
 
@@ -62,7 +62,7 @@ module _ (e : Closeness) (read : Reader) (ss : List Segment) where
       let f = fallCost i n in
       record { first = i; len = n; rise = ltZ r f; cost = cond (ltZ r f) r f }
 
-  -- S5: of all runs of n segments the leftmost with the lowest cost. n is at most the number of segments: the difference is never negative
+  -- S5: of all runs of n segments, the leftmost with the lowest cost. n is at most the number of segments, so the difference is never negative
   unfoldable pub cheapest : ℕ → Join
   cheapest n = joinOf (firstLowest (length ss - n) (λ i. joinOf i n .cost)) n
 
@@ -70,7 +70,7 @@ module _ (e : Closeness) (read : Reader) (ss : List Segment) where
   unfoldable pub nextJoin : Option Join
   nextJoin = firstThat (λ (j : Join). ltZ (j .cost) (pos 0)) (map cheapest (numbers 2 (length ss - 1)))
 
--- S7: the next join, until there is none. Each drops a segment or more, so as many steps as segments are enough
+-- S7: the next join is made as long as there is one. Each drops a segment or more, so as many steps as there are segments are enough
 unfoldable pub joinAll : ℕ → Closeness → Reader → List Segment → List Segment
 joinAll zero e read ss = ss
 joinAll (suc k) e read ss = maybe ss (λ j. joinAll k e read (join ss j)) (nextJoin e read ss)

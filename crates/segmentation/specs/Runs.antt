@@ -1,4 +1,4 @@
--- What the search for the next join goes by. No public promise cites it. Assumes nothing.
+-- What the search for the next join relies on. No public promise cites it. Assumes nothing.
 use Prim.Native.Nat.{ℕ, _^_, _≤_, _<_}
 use mathlib.Core.Path.{_≡_}
 use mathlib.Core.Bool.{true, false, cond}
@@ -14,14 +14,14 @@ use Rattle.segmentation.specs.Joining.{Join}
 use Rattle.segmentation.specs.Finished.{Cut}
 use Rattle.segmentation.specs.Held.{segmentsHeld}
 
--- a line h whose n segments the two lists hold
+-- a line h, and two lists that hold its n segments
 pub record LineHeld (e : Closeness) (h separators peaks : List ℕ) (n : ℕ) : Type 0 where
   pub small : Small h
   pub close : e ≤ mostCloseness
   pub places : (n < length separators) × (n ≤ length peaks)
   pub cut : Cut (length h) (segmentsHeld separators peaks 0 n)
 
--- what the code gives for the run j when only a cost below `least` matters: such a run exactly, and for any other one that is not below `least`
+-- what the code gives for the run j when only a cost below `least` matters: j itself if its cost is below `least`, else a run whose cost is not
 pub record RunBelow (least : ℤ) (j r : Join) : Type 0 where
   pub below : ltZ (j .cost) least ≡ true → r ≡ j
   pub above : ltZ (j .cost) least ≡ false → least ≤ℤ r .cost
@@ -31,10 +31,10 @@ pub record RunBelow (least : ℤ) (j r : Join) : Type 0 where
 abbrev pub joinBy : ℕ → ℕ → ℤ → ℤ → Join
 joinBy i n rise fall = record { first = i; len = n; rise = ltZ rise fall; cost = cond (ltZ rise fall) rise fall }
 
--- S5: a run takes the place of what was found where its cost is lower, so the leftmost of equals stays
+-- S5: a run replaces the best one found so far only if its cost is lower, so the leftmost of equals stays
 unfoldable pub betterOf : Found → Join → Found
 betterOf best next = cond (ltZ (next .cost) (best .join .cost)) (record { found = true; join = next }) best
 
--- S4: the run, where it is joinable
+-- S4: the run, if it is joinable
 abbrev pub whereBelow : Join → Option Join
 whereBelow j = cond (ltZ (j .cost) (pos 0)) (some j) none

@@ -7,7 +7,8 @@ ghost use Rattle.segmentation.specs.Segments.{firstSeparators, firstHigh
 ghost use Rattle.segmentation.specs.Held.{segmentsHeld};
 ghost use Rattle.segmentation.specs.Walk.{fellAfter, pending, InLine, PeaksHeld};
 
-// Where the bins last fell, if they did and have not risen since, else 0: after the step to bin i, from a bin of x counts to one of y.
+// The bin where the counts last fell, if they fell and have not risen since, else 0. `fell` is that bin before the step to bin i; the
+// step goes from a bin of x counts to one of y.
 fn fell_after(fell: usize, i: usize, x: u32, y: u32) -> usize
     ensures { λ r. ⌜ r ≡ fellAfter fell i x y ⌝ }
 {
@@ -20,7 +21,7 @@ fn fell_after(fell: usize, i: usize, x: u32, y: u32) -> usize
     }
 }
 
-// Where the bins last fell is a separator when they rise: how many there are then.
+// When the counts rise, the bin where they last fell becomes a separator. Returns how many separators there are then.
 fn put_valley(separators: &mut [u32], n: usize, fell: usize, rises: bool) -> usize
     requires { ⌜ (n < length (now separators)) × (fell < 2 ^ 32) ⌝ }
     ensures { λ r. ⌜ (r ≤ n + 1) × (take r (now (separators .exit)) ≡ take n (now (separators .entry)) ++ pending fell rises) ⌝ }
@@ -32,7 +33,7 @@ fn put_valley(separators: &mut [u32], n: usize, fell: usize, rises: bool) -> usi
     n
 }
 
-// The first separators: how many before the last one.
+// Writes the first separators. Returns how many there are before the last one.
 fn first_separators(h: &[u32], separators: &mut [u32]) -> usize
     requires { ⌜ (2 ≤ length (now h)) × (length (now h) ≤ 257) × (length (now h) ≤ length (now separators)) ⌝ }
     ensures { λ r. ⌜ (r < length (now (h .entry))) × (take (r + 1) (now (separators .exit)) ≡ firstSeparators (now (h .entry))) ⌝ }
@@ -52,7 +53,7 @@ fn first_separators(h: &[u32], separators: &mut [u32]) -> usize
     n
 }
 
-// The first highest bin of those from start to end.
+// The first of the highest bins from start to end.
 fn first_highest(h: &[u32], start: usize, end: usize) -> usize
     requires { ⌜ (start ≤ end) × (end < length (now h)) ⌝ }
     ensures { λ r. ⌜ (r ≤ end) × (r ≡ firstHighest (now (h .entry)) start (end - start)) ⌝ }
@@ -68,7 +69,7 @@ fn first_highest(h: &[u32], start: usize, end: usize) -> usize
     best
 }
 
-// The peaks of the n segments between the first separators.
+// Writes the peaks of the n segments between the first separators.
 fn first_peaks(h: &[u32], separators: &[u32], peaks: &mut [u32], n: usize)
     requires { ⌜ (length (now h) ≤ 257) × (n < length (now separators)) × (n ≤ length (now peaks)) ⌝ }
     requires { ⌜ InLine (now h) (now separators) n ⌝ }
@@ -83,7 +84,7 @@ fn first_peaks(h: &[u32], separators: &[u32], peaks: &mut [u32], n: usize)
     }
 }
 
-// The first segments of a line: how many there are.
+// Writes the first segments of a line. Returns how many there are.
 pub fn first_segments(h: &[u32], separators: &mut [u32], peaks: &mut [u32]) -> usize
     requires { ⌜ (2 ≤ length (now h)) × (length (now h) ≤ 257) × (length (now h) ≤ length (now separators)) × (length (now h) ≤ length (now peaks)) ⌝ }
     ensures { λ r. ⌜ segmentsHeld (now (separators .exit)) (now (peaks .exit)) 0 r ≡ firstSegments (now (h .entry)) ⌝ }

@@ -1,4 +1,4 @@
-// Joining a run of segments in place, and joining until nothing is left to join.
+// Joining a run of segments in place, and joining until no run is joinable.
 use crate::Join;
 use crate::first::first_segments;
 use crate::runs::next_join;
@@ -12,7 +12,7 @@ ghost use Rattle.segmentation.specs.Joining.{lineReader, join, joinAll, 
 ghost use Rattle.segmentation.specs.Held.{segmentsHeld};
 ghost use Rattle.segmentation.specs.Finished.{Cut};
 
-// The members from number `from` up to the one before `end` move down, to number `to` on.
+// Moves the members from place `from` up to, but not including, `end` down to the places from `to` on.
 fn shift(a: &mut [u32], to: usize, from: usize, end: usize)
     requires { ⌜ (to ≤ from) × (from ≤ end) × (end ≤ length (now a)) ⌝ }
     ensures { λ _. ⌜ now (a .exit) ≡ paste (now (a .entry)) to (drop from (now (a .entry))) (end - from) ⌝ }
@@ -25,8 +25,8 @@ fn shift(a: &mut [u32], to: usize, from: usize, end: usize)
     }
 }
 
-// Joins a run of the n segments in place: how many there are then.
-// Without its inner separators what follows moves down; of its peaks the last stays for a rise, the first for a fall.
+// Joins a run of the n segments in place. Returns how many segments there are then.
+// The separators inside the run are dropped, and what follows moves down. Of its peaks a rise keeps the last, a fall the first.
 pub fn apply(separators: &mut [u32], peaks: &mut [u32], n: usize, j: Join) -> usize
     requires { ⌜ (2 ≤ j .len) × (j .first + j .len ≤ n) × (n < length (now separators)) × (n ≤ length (now peaks)) ⌝ }
     ensures { λ r. ⌜ (segmentsHeld (now (separators .exit)) (now (peaks .exit)) 0 r ≡ join (segmentsHeld (now (separators .entry)) (now (peaks .entry)) 0 n) j)
@@ -40,7 +40,7 @@ pub fn apply(separators: &mut [u32], peaks: &mut [u32], n: usize, j: Join) -> us
     n - fewer
 }
 
-// Joins until nothing is left to join: how many segments there are then.
+// Joins until no run is joinable. Returns how many segments there are then.
 pub fn join_all(
     h: &[u32],
     closeness: u32,
@@ -66,7 +66,7 @@ pub fn join_all(
     }
 }
 
-// The modes of a line: how many there are.
+// Writes the modes of a line. Returns how many there are.
 pub fn line(h: &[u32], closeness: u32, separators: &mut [u32], peaks: &mut [u32]) -> usize
     requires { ⌜ Small (now h) ⌝ }
     requires { ⌜ (2 ≤ length (now h)) × (closeness ≤ mostCloseness) ⌝ }

@@ -1,4 +1,4 @@
-// The modes of a line of bins and of a ring: first segments at the valleys, joined while a run of them can be joined.
+// The modes of a line of bins and of a ring. The first segments are cut at the valleys; they are joined as long as a run of them is joinable.
 mod first;
 mod joins;
 mod listing;
@@ -9,7 +9,7 @@ pub use listing::line_separators;
 pub use listing::ring_separators;
 pub use rings::open_ring;
 
-// A run of len segments from number first that may be joined: by its rise, or by its fall; and that one's cost.
+// A run of len segments, from segment number `first` on, that may be joined: whether by its rise or by its fall, and at what cost.
 pub struct Join {
     pub first: usize,
     pub len: usize,
@@ -17,7 +17,7 @@ pub struct Join {
     pub cost: i64,
 }
 
-// A join, where one was found.
+// A join, if one was found.
 pub struct Found {
     pub found: bool,
     pub join: Join,

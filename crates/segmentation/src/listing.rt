@@ -12,7 +12,7 @@ ghost use Rattle.verdict.specs.Scratch.{Small};
 ghost use Rattle.segmentation.specs.Joining.{lineSeparators};
 ghost use Rattle.segmentation.specs.Ring.{ringSeparators};
 
-// The first n members of one list, in the first places of another.
+// Copies the first n members of one list into the first places of another.
 fn copy_first(source: &[u32], n: usize, list: &mut [u32])
     requires { ⌜ (n ≤ length (now source)) × (n ≤ length (now list)) ⌝ }
     ensures { λ _. ⌜ now (list .exit) ≡ over (take n (now (source .entry))) (now (list .entry)) ⌝ }
@@ -24,7 +24,7 @@ fn copy_first(source: &[u32], n: usize, list: &mut [u32])
     }
 }
 
-// The separators of a line: how many there are.
+// Writes the separators of a line. Returns how many there are.
 pub fn line_separators(h: &[u32], closeness: u32, list: &mut [u32]) -> u32
     requires { ⌜ Small (now h) ⌝ }
     requires { ⌜ (2 ≤ length (now h)) × (closeness ≤ mostCloseness) × (length (now h) ≤ length (now list)) ⌝ }
@@ -38,7 +38,7 @@ pub fn line_separators(h: &[u32], closeness: u32, list: &mut [u32]) -> u32
     (n + 1) as u32
 }
 
-// The separators of a ring, from its opening on: how many there are.
+// Writes the separators of a ring, from its opening on. Returns how many there are.
 pub fn ring_separators(h: &[u32], closeness: u32, list: &mut [u32]) -> u32
     requires { ⌜ (2 ≤ length (now h)) × (length (now h) ≤ 256) × (total (now h) ≤ 65536) ⌝ }
     requires { ⌜ (closeness ≤ mostCloseness) × (length (now h) ≤ length (now list)) ⌝ }

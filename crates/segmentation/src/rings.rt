@@ -1,4 +1,4 @@
-// The ring: its opening, its opened line, and its own numbers for the line's separators.
+// The ring: its opening, its opened line, and the line's separators by the ring's own bin numbers.
 ghost use mathlib.Core.Path.{_≡_};
 ghost use mathlib.Core.List.{map};
 ghost use Prim.Native.Nat.{_+_, _%_, _≤_, _<_};
@@ -6,7 +6,7 @@ ghost use lib.ListN.{length, take};
 ghost use Rattle.lists.specs.Lists.{over};
 ghost use Rattle.segmentation.specs.Ring.{opening, opened};
 
-// The lowest bin, the lowest-numbered of equals.
+// The lowest bin; of several, the one with the lowest number.
 fn lowest_bin(h: &[u32]) -> usize
     requires { ⌜ 1 ≤ length (now h) ⌝ }
     ensures { λ r. ⌜ r ≡ opening (now (h .entry)) ⌝ }
@@ -22,7 +22,7 @@ fn lowest_bin(h: &[u32]) -> usize
     lowest
 }
 
-// Writes the ring from bin `first` on, round to it again, into the first places of `line`.
+// Writes the ring into the first places of `line`, from bin `first` once round and back to that bin.
 fn write_opened(h: &[u32], first: usize, line: &mut [u32])
     requires { ⌜ (1 ≤ length (now h)) × (length (now h) ≤ 256) × (length (now h) < length (now line)) ⌝ }
     requires { ⌜ first ≡ opening (now h) ⌝ }
@@ -36,7 +36,7 @@ fn write_opened(h: &[u32], first: usize, line: &mut [u32])
     }
 }
 
-// Opens the ring h: writes its line into the first places of `line`, and gives the bin that it is opened at.
+// Opens the ring h: writes its line into the first places of `line`, and returns the bin at which it is opened.
 pub fn open_ring(h: &[u32], line: &mut [u32]) -> usize
     requires { ⌜ (2 ≤ length (now h)) × (length (now h) ≤ 256) × (length (now h) < length (now line)) ⌝ }
     ensures { λ r. ⌜ (r ≡ opening (now (h .entry))) × (now (line .exit) ≡ over (opened (now (h .entry))) (now (line .entry))) ⌝ }
@@ -46,7 +46,7 @@ pub fn open_ring(h: &[u32], line: &mut [u32]) -> usize
     first
 }
 
-// The ring's own number of each of the first n separators of its opened line, in the first places of `out`.
+// Writes the first n separators of the opened line, by the ring's own bin numbers, into the first places of `out`.
 pub fn ring_numbers(separators: &[u32], n: usize, opening: usize, bins: usize, out: &mut [u32])
     requires { ⌜ (n ≤ length (now separators)) × (n ≤ length (now out)) ⌝ }
     requires { ⌜ (opening < bins) × (bins ≤ 256) ⌝ }

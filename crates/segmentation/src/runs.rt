@@ -1,4 +1,4 @@
-// The search for the join that comes next.
+// The search for the next join.
 use crate::Found;
 use crate::Join;
 use verdict::capped_cost;
@@ -17,7 +17,7 @@ ghost use Rattle.segmentation.specs.Finished.{Cut};
 ghost use Rattle.segmentation.specs.Held.{segmentsHeld, joinFound};
 ghost use Rattle.segmentation.specs.Runs.{LineHeld, RunBelow, joinBy, betterOf, whereBelow};
 
-// The number of a bin, as the lists hold it.
+// The number of a bin, from a list that holds it.
 fn wide(x: u32) -> usize
     ensures { λ r. ⌜ r ≡ x ⌝ }
 {
@@ -31,7 +31,7 @@ fn smaller(x: i64, y: i64) -> i64
     if x < y { x } else { y }
 }
 
-// The run of len segments from number i, by its two costs: the smaller counts, the fall if equal.
+// The run of len segments from segment i on, by its two costs. The smaller one counts; if they are equal, that of the fall.
 fn by_costs(i: usize, len: usize, rise: i64, fall: i64) -> Join
     ensures { λ r. ⌜ r ≡ joinBy i len rise fall ⌝ }
 {
@@ -52,7 +52,7 @@ fn stretch_cost(h: &[u32], rising: bool, closeness: u32, i: usize, j: usize, cap
     capped_cost(&h[i..j + 1], rising, closeness, cap)
 }
 
-// The run of len segments from number i, where only a cost below `least` matters.
+// The run of len segments from segment i on, where only a cost below `least` matters.
 fn run(
     h: &[u32],
     closeness: u32,
@@ -77,7 +77,7 @@ fn run(
     by_costs(i, len, rise, fall)
 }
 
-// Nothing found, with the cost that one has to be below.
+// Nothing found yet. Its cost is the one that a join must be below.
 fn nothing() -> Found
     ensures { λ r. ⌜ (r .found ≡ false) × (r .join .cost ≡ pos 0) ⌝ }
 {
@@ -92,7 +92,7 @@ fn nothing() -> Found
     }
 }
 
-// What is found after one run more.
+// The best join found, with one more run looked at.
 fn better(best: Found, next: Join) -> Found
     ensures { λ r. ⌜ r ≡ betterOf best next ⌝ }
 {
@@ -105,7 +105,7 @@ fn better(best: Found, next: Join) -> Found
     best
 }
 
-// Of all runs of len segments the leftmost of the lowest cost, where that is below 0.
+// Of all runs of len segments, the leftmost one of the lowest cost, if that cost is below 0.
 fn cheapest_below(
     h: &[u32],
     closeness: u32,
@@ -128,7 +128,7 @@ fn cheapest_below(
     best
 }
 
-// The join that comes next, if any.
+// The next join, if there is one.
 pub fn next_join(h: &[u32], closeness: u32, separators: &[u32], peaks: &[u32], n: usize) -> Found
     requires { ⌜ Small (now h) ⌝ }
     requires { ⌜ closeness ≤ mostCloseness ⌝ }

@@ -1,4 +1,4 @@
--- Laws of fields, column by column: of the spaces, of the digits, of the whole; and no column of a field is a line feed. Assumes nothing.
+-- Laws of fields, column by column: the spaces, the digits, the whole field; and no column of a field is a line feed. Assumes nothing.
 use Prim.Native.Nat.{ℕ, zero, suc, _+_, _*_, _-_, _≤_, _<_, _^_}
 use mathlib.Core.Path.{_≡_, refl, sym, _∙_}
 use mathlib.Core.Bool.{Bool, true, false, cond, _&&_}

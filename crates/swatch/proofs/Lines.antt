@@ -1,4 +1,4 @@
--- Laws of lines: what the first line of a text is, and that its fields are those of the text's first 13 bytes. Assumes nothing.
+-- Laws of lines: what the first line of a text is; its fields are those of the text's first 13 bytes. Assumes nothing.
 use Prim.Native.Nat.{ℕ, zero, suc, _*_, _≤_, _<_}
 use mathlib.Core.Path.{_≡_, refl, sym, ap, _∙_}
 use mathlib.Core.Bool.{Bool, true, false, cond, _&&_}

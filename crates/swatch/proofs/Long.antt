@@ -1,4 +1,4 @@
--- What the reading makes of a text longer than any swatch, by `LongReading`: its header and its size decide. Assumes nothing.
+-- How a text longer than any swatch is read, as `LongReading` states: its header and its size decide. Assumes nothing.
 use Prim.Native.Nat.{ℕ, suc, _≤_, _<_}
 use mathlib.Core.Path.{_≡_, refl, sym, ap, _∙_}
 use mathlib.Core.Bool.{Bool, true, false, cond}

@@ -1,4 +1,4 @@
--- Which number a text gets, ground by ground, and the reading that has it. Assumes nothing.
+-- Which number a text gets, ground by ground, and the reading with that number. Assumes nothing.
 use Prim.Native.Nat.{ℕ, suc, _*_, _≤_, _<_}
 use mathlib.Core.Path.{_≡_}
 use mathlib.Core.Bool.{true, false, cond, or-true}

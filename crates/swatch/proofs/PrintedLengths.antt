@@ -1,4 +1,4 @@
--- How many bytes a field, a line, an entry and a card print. Assumes nothing.
+-- How many bytes a field, a line, an entry and a card have in print. Assumes nothing.
 use Prim.Native.Nat.{ℕ, zero, suc, _+_, _*_}
 use mathlib.Core.Path.{_≡_, refl, ap, _∙_}
 use mathlib.Core.List.{List, [], _∷_, flatMap}

@@ -9,7 +9,7 @@ use Rattle.palette.specs.declared.Entry.{Entry}
 use Rattle.palette.specs.Cards.{mostEntries}
 use Rattle.swatch.specs.Input.{lineFeed, space, digitZero}
 
--- X2: a number in so many columns, which it fits: in each the digit of a power of ten, or a space in front of the first digit
+-- X2: a number in as many columns as given, which it fits. Each column has the digit of a power of ten, or a space in front of the first digit
 unfoldable pub printedIn : ℕ → ℕ → List ℕ
 printedIn zero v = []
 printedIn (suc j) v = cond (ltb 0 j && ltb v (10 ^ j)) space (digitZero + v / 10 ^ j % 10) ∷ printedIn j v
@@ -41,7 +41,7 @@ printedCard pixels closeness es = printedLine (length es ∷ pixels ∷ closenes
 unfoldable pub printedMost : ℕ
 printedMost = 19 + 49 * mostEntries
 
--- how many bytes a card prints; proved in proofs/PrintedLengths
+-- how many bytes a printed card has; proved in proofs/PrintedLengths
 abbrev pub PrintedLength : Type 0
 PrintedLength = (pixels closeness : ℕ) (es : List Entry) → length (printedCard pixels closeness es) ≡ 19 + 49 * length es
 

@@ -1,5 +1,5 @@
--- Texts mean what they show: what is written in fields is read back. A statement is proved in the file of its name under proofs/. Assumes nothing.
---   FieldRead                    a number in its columns
+-- Texts mean what they show: what is written in fields is read back. Each statement is proved in the file of the same name under proofs/. Assumes nothing.
+--   FieldRead                    a number in its columns is read back
 --   writtenSwatch, SwatchRead    the text of a swatch; it is read back
 --   figuresIn, CardRead          all fields of a printed text, line by line; those of a card are its figures
 use Prim.Native.Nat.{ℕ, _+_, _*_, _/_, _^_, _≤_, _<_}
@@ -20,7 +20,7 @@ use Rattle.swatch.specs.Input.{lineFeed, linesOf, field, pieces, headerO
 use Rattle.swatch.specs.Reading.{mostSwatchPixels, swatchNumber}
 use Rattle.swatch.specs.Output.{printedIn, lineIn, printedLine, entryFigures, printedCard}
 
--- a number that fits its columns is what its field says (X2). In 6 columns: every number below a million
+-- a number that fits its columns is the value of its field (X2). In 6 columns: every number below a million
 abbrev pub FieldRead : Type 0
 FieldRead = (w v : ℕ) → 1 ≤ w → v < 10 ^ w → field (printedIn w v) ≡ some v
 
@@ -39,7 +39,7 @@ pub record MakesSwatch (width height : ℕ) (ps : List Pixel) : Type 0 where
   pub size : length ps ≡ width * height
   pub bytes : (i : ℕ) → i < length ps → Bytes (pixelAt ps i)
 
--- what the reading makes of their text
+-- how their text is read
 pub record ReadBack (width height : ℕ) (ps : List Pixel) : Type 0 where
   pub header : headerOf (writtenSwatch width height ps) ≡ some (width ∷ height ∷ [])
   pub accepted : swatchNumber (writtenSwatch width height ps) ≡ 0
@@ -50,7 +50,7 @@ abbrev pub SwatchRead : Type 0
 SwatchRead = (width height : ℕ) (ps : List Pixel) → MakesSwatch width height ps → ReadBack width height ps
 
 -- ---- a printed text
--- the n fields of w columns of a line that has just these and a line feed
+-- the n fields, w columns each, of a line that has only these and a line feed
 unfoldable pub fieldsIn : ℕ → ℕ → List ℕ → Option (List ℕ)
 fieldsIn w n line = cond (eqb (length line) (w * n + 1) && eqb (getD line (w * n) 0) lineFeed) (whole (map field (pieces w n line))) none
 

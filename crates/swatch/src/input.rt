@@ -1,4 +1,4 @@
-// Reading a swatch. Line k is looked for at the bytes from 13k on and nowhere else: an earlier line feed would stand in a column of a field, where it is refused.
+// Reading a swatch. Line k is always read from byte 13k on: an earlier line feed would stand in a column of a field, where it is refused.
 use crate::COLUMNS;
 use crate::LINE;
 use crate::MOST_SWATCH_PIXELS;
@@ -20,7 +20,7 @@ ghost use Rattle.swatch.specs.Input.{
 };
 ghost use Rattle.swatch.specs.Reading.{given, colourField, mostSwatchPixels, readingOf};
 
-// The value of a field, where it is one.
+// The value of a field, if there is one.
 struct Value {
     there: bool,
     value: u32,
@@ -31,20 +31,20 @@ const NO_VALUE: Value = Value {
     value: 0,
 };
 
-// The value of a field of 0 to 255, where it is one.
+// The value of a field of 0 to 255, if there is one.
 struct Colour {
     there: bool,
     value: u8,
 }
 
-// The two fields of a header, where they are there.
+// The two fields of a header, if both are there.
 struct Size {
     there: bool,
     width: u32,
     height: u32,
 }
 
-// The fields of a pixel line, where they are three of 0 to 255.
+// The fields of a pixel line, if all three are there, each of 0 to 255.
 struct Row {
     there: bool,
     red: u8,
@@ -52,7 +52,7 @@ struct Row {
     blue: u8,
 }
 
-// The place of the first column that is no space; past the last column if all are.
+// The place of the first column that is not a space, or the place past the last column if all are spaces.
 fn after_spaces(columns: &[u8]) -> usize
     ensures { λ r. ⌜ (r ≤ length (now (columns .entry))) × (drop r (now (columns .entry)) ≡ afterSpaces (now (columns .entry))) ⌝ }
 {
@@ -72,7 +72,7 @@ fn is_digit(c: u8) -> bool
     (b'0' <= c) & (c <= b'9')
 }
 
-// The decimal number in the columns from `first` on. Six columns have a number below a million.
+// The decimal number in the columns from `first` on. Six columns hold a number below a million.
 fn digits(columns: &[u8], first: usize) -> Value
     requires { ⌜ (first ≤ length (now columns)) × (length (now columns) ≤ 6) ⌝ }
     ensures { λ r. ⌜ given (r .there) (r .value) ≡ decimal 0 (drop first (now (columns .entry))) ⌝ }
@@ -187,8 +187,8 @@ fn pixel_lines(text: &[u8], pixels: usize, bytes: &mut [u8]) -> bool
     true
 }
 
-// Reads a swatch: any bytes, of any length. The pixels' bytes are left in the first places of `bytes`; of a swatch that is turned down
-// they are of no use.
+// Reads a swatch from any bytes, of any length. The pixels' bytes are left in the first places of `bytes`; if the swatch is turned
+// down, those places have no meaning.
 pub fn read(text: &[u8], bytes: &mut [u8]) -> Reading
     requires { ⌜ 3 * mostSwatchPixels ≤ length (now bytes) ⌝ }
     ensures { λ r. ⌜ (r ≡ readingOf (now (text .entry)))

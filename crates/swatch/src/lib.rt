@@ -19,10 +19,10 @@ const LINE: usize = COLUMNS + 1;
 // The most bytes that a swatch may have: a header and a line for each pixel.
 pub const LONGEST_SWATCH: usize = LINE + LINE * MOST_SWATCH_PIXELS;
 
-// The most bytes that a card prints: a line of 3 fields, and a line of 8 for each entry.
+// The most bytes that a printed card may have: a line of 3 fields, and a line of 8 for each entry.
 pub const PRINTED_MOST: usize = 19 + 49 * MOST_ENTRIES;
 
-// What a swatch's text gives: 0 and how many pixels it has, or the ground on which it is turned down and 0.
+// What reading a swatch gives: number 0 and how many pixels it has, or the ground on which it is turned down and 0 pixels.
 pub struct Reading {
     pub number: u32,
     pub pixels: u32,

@@ -1,5 +1,5 @@
-// The text of a card: lines of fields, each field a number in 6 columns. Every function here that is given a place writes from it on,
-// and leaves what stands before and after.
+// The text of a card: lines of fields, each field a number in 6 columns. Every function here that is given a place writes from there on,
+// and leaves what comes before and after as it was.
 use palette::Entry;
 use palette::MOST_ENTRIES;
 ghost use mathlib.Core.Path.{_≡_};
@@ -13,7 +13,7 @@ ghost use Rattle.palette.specs.Cards.{mostEntries};
 ghost use Rattle.swatch.specs.Input.{space, digitZero};
 ghost use Rattle.swatch.specs.Output.{printedField, printedLine, printedEntry, printedCard, printedMost};
 
-// The digit of `unit`, a power of ten.
+// The digit of the value at `unit`, a power of ten.
 fn digit(value: u32, unit: u32) -> u8
     requires { ⌜ 0 < unit ⌝ }
     ensures { λ r. ⌜ r ≡ digitZero + value / unit % 10 ⌝ }
@@ -21,7 +21,7 @@ fn digit(value: u32, unit: u32) -> u8
     b'0' + (value / unit % 10) as u8
 }
 
-// The digit, or a space in front of the first digit.
+// That digit, or a space in front of the first digit.
 fn column(value: u32, unit: u32) -> u8
     requires { ⌜ 0 < unit ⌝ }
     ensures { λ r. ⌜ r ≡ cond (ltb value unit) space (digitZero + value / unit % 10) ⌝ }
@@ -32,7 +32,7 @@ fn column(value: u32, unit: u32) -> u8
     digit(value, unit)
 }
 
-// A number in 6 columns. The last column has its digit, even a 0 with no digit before it.
+// Writes a number in 6 columns. The last column always has a digit, even a 0 with no digit before it.
 fn put_field(value: u32, at: usize, out: &mut [u8])
     requires { ⌜ at + 6 ≤ length (now out) ⌝ }
     ensures { λ _. ⌜ now (out .exit) ≡ over (take at (now (out .entry)) ++ printedField value) (now (out .entry)) ⌝ }
@@ -45,7 +45,7 @@ fn put_field(value: u32, at: usize, out: &mut [u8])
     out[at + 5] = digit(value, 1);
 }
 
-// A line of fields: the place after it.
+// Writes a line of fields. Returns the place after it.
 fn put_line(values: &[u32], at: usize, out: &mut [u8]) -> usize
     requires { ⌜ at + 6 * length (now values) < length (now out) ⌝ }
     ensures { λ r. ⌜ (now (out .exit) ≡ over (take at (now (out .entry)) ++ printedLine (now (values .entry))) (now (out .entry)))
@@ -62,7 +62,7 @@ fn put_line(values: &[u32], at: usize, out: &mut [u8]) -> usize
     place + 1
 }
 
-// The line of an entry: the place after it.
+// Writes the line of an entry. Returns the place after it.
 fn put_entry(entry: Entry, at: usize, out: &mut [u8]) -> usize
     requires { ⌜ at + 49 ≤ length (now out) ⌝ }
     ensures { λ r. ⌜ (now (out .exit) ≡ over (take at (now (out .entry)) ++ printedEntry entry) (now (out .entry)))
@@ -81,7 +81,7 @@ fn put_entry(entry: Entry, at: usize, out: &mut [u8]) -> usize
     put_line(&values, at, out)
 }
 
-// The text of a card in the first places of `out`: how many bytes.
+// Writes the text of a card into the first places of `out`. Returns how many bytes it has.
 pub fn print_card(
     entries: [Entry; MOST_ENTRIES],
     len: usize,
@@ -103,7 +103,7 @@ pub fn print_card(
     at
 }
 
-// The line of a turned-down swatch, one field, in the first places of `out`: how many bytes.
+// Writes the line of a turned-down swatch, one field, into the first places of `out`. Returns how many bytes it has.
 pub fn print_number(number: u32, out: &mut [u8]) -> usize
     requires { ⌜ 7 ≤ length (now out) ⌝ }
     ensures { λ r. ⌜ (now (out .exit) ≡ over (printedLine (number ∷ [])) (now (out .entry)))

@@ -1,4 +1,4 @@
--- 'Exactness': a rejected stretch has a part above the bar less 2N+2 units, and every part of an accepted one is below the bar plus 2N units.
+-- The band of T8 and T9: a rejected stretch has a part above the bar minus 2N+2 units, and every part of an accepted one is below the bar plus 2N units.
 -- Each logarithm is off by less than 2 units, and a weight has N of them on either side. Assumes nothing.
 use Prim.Native.Nat.{ℕ, zero, suc, _+_, _*_, _-_, _/_, _^_, _≤_, _<_}
 use mathlib.Core.Path.{_≡_, sym, ap, _∙_}

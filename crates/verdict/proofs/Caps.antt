@@ -1,4 +1,4 @@
--- The best weight that a search stops with, as far as a limit, gives the cost as far as a cap. Assumes nothing.
+-- The best weight that a search finds, up to a limit, gives the cost up to a cap. Assumes nothing.
 use Prim.Native.Nat.{ℕ, zero, suc, _+_, _-_, _^_, _≤_, _<_}
 use mathlib.Core.Path.{_≡_, refl, sym, ap, ap₂, _∙_}
 use mathlib.Core.Bool.{Bool, true, false, cond, false≢true}

@@ -1,4 +1,4 @@
--- The largest weight of a stretch is that of some part, and no part's is above it. Assumes nothing.
+-- The largest weight of a stretch is that of some part, and no part has a larger one. Assumes nothing.
 use Prim.Native.Nat.{ℕ, _-_, _≤_, _<_}
 use mathlib.Core.Path.{_≡_, _∙_}
 use mathlib.Core.List.{List}

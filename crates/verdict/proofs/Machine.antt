@@ -1,4 +1,4 @@
--- Signed numbers as the machine holds them: a difference of two natural ones, and the test of two signed ones. Assumes nothing.
+-- Signed numbers as the machine holds them: the difference of two natural numbers, and the test of two signed numbers. Assumes nothing.
 use mathlib.Core.Path.{_≡_, sym, ap, _∙_}
 use mathlib.Core.Bool.{Bool}
 use Prim.Native.Nat.{ℕ, zero, suc, _^_, _<_}

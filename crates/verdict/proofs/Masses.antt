@@ -1,4 +1,4 @@
--- The fitted mass of a part as a sum of levels, and so as the fit's. Assumes nothing.
+-- The fitted mass of a part as a sum of levels, and so as the mass that the fit gives it. Assumes nothing.
 use Prim.Native.Nat.{ℕ, suc, _+_, _*_, _-_, _/_, _≤_, _<_}
 use mathlib.Core.Path.{_≡_, sym, ap, _∙_}
 use mathlib.Core.List.{List}

@@ -1,4 +1,4 @@
--- A stretch that already goes the tested way is its own best fit: every weight is 0, and its cost is minus the bar. Assumes nothing.
+-- A stretch that is already monotone in the tested direction is its own best fit: every weight is 0, and its cost is minus the bar. Assumes nothing.
 use Prim.Native.Nat.{ℕ, zero, suc, _+_, _*_, _/_, _≤_, _<_}
 use mathlib.Core.Path.{_≡_, refl, sym, ap, _∙_, subst}
 use mathlib.Core.List.{List, [], _∷_, map}

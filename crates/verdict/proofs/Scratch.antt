@@ -1,4 +1,4 @@
--- The tables of a stretch hold what the code reads out of them: running totals, places, and what follows for a part's two ends. Assumes nothing.
+-- The tables of a stretch hold what the code reads from them: running totals, places, and what follows for the two ends of a part. Assumes nothing.
 use Prim.Native.Nat.{ℕ, suc, _+_, _-_, _≤_, _<_}
 use mathlib.Core.Path.{_≡_, sym, ap, ap₂, _∙_}
 use mathlib.Core.List.{List, map}

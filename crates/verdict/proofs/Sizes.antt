@@ -1,4 +1,4 @@
--- The figures of weights and of the bar are small. Assumes nothing.
+-- The figures in weights and in the bar are small. Assumes nothing.
 use Prim.Native.Nat.{ℕ, zero, suc, _*_, _-_, _/_, _^_, _≤_, _<_}
 use native.Mathlib.Nat.{mul-le-mul-left, mul-le-mul, le-refl, zero-mul}
 use native.Mathlib.Omega.{arith}

@@ -1,5 +1,5 @@
--- The terms of a weight and of a bar: which there are, and that each logarithm is taken of a number in its range. Assumes nothing.
---   Ranged k x    x is in the range where its factor k is not 0
+-- The terms of a weight and of a bar: what they are, and that each logarithm is taken of a number in its range. Assumes nothing.
+--   Ranged k x    x is in the range if its factor k is not 0
 --   Logged x      x has a logarithm
 use Prim.Native.Nat.{ℕ, zero, suc, _+_, _*_, _-_, _/_, _^_, _≤_, _<_}
 use mathlib.Core.Path.{_≡_, refl, sym, ap, _∙_}

@@ -1,4 +1,4 @@
--- The exact relative entropy beside the test (rules T7 to T9), and what stands behind every verdict. Assumes nothing.
+-- The exact relative entropy that the test is compared with (rules T7 to T9), and what stands behind every verdict. Assumes nothing.
 use Prim.Native.Nat.{ℕ, suc, _+_, _*_, _-_, _/_, _^_, _≤_, _<_}
 use mathlib.Core.Path.{_≡_}
 use mathlib.Core.Bool.{true, false}
@@ -21,11 +21,11 @@ observed n k m = (k * m .den) ^ k * ((n - k) * m .den) ^ (n - k)
 unfoldable pub expected : ℕ → ℕ → Mass → ℕ
 expected n k m = m .num ^ k * (n * m .den - m .num) ^ (n - k)
 
--- T7: what X/Y is held to
+-- T7: what X/Y is compared with
 unfoldable pub exactBar : Closeness → ℕ → ℕ
 exactBar e l = 2 ^ e * (l * suc l / 2)
 
--- L1: what the logarithms of a weight ask of a part that holds k of the n counts: kB, (N−k)B, A and NB−A are below 2^32, and 1 or more where their factor is not 0
+-- L1: what the logarithms of a weight require of a part that holds k of the n counts: kB, (N−k)B, A and NB−A are below 2^32, and 1 or more if their factor is not 0
 pub record LogsDefined (n k : ℕ) (m : Mass) : Type 0 where
   pub partial : k ≤ n
   pub positive : 0 < m .den
@@ -47,16 +47,16 @@ module _ (e : Closeness) (w : Direction) (h : List ℕ) where
   unfoldable pub partX : ℕ → ℕ → ℕ
   partX i j = observed (total h) (total (part i j h)) (fittedMass h (blocks w h) i j)
 
-  -- its Y times the bar
+  -- the Y of that part, times the bar
   unfoldable pub partBar : ℕ → ℕ → ℕ
   partBar i j = exactBar e (length h) * expected (total h) (total (part i j h)) (fittedMass h (blocks w h) i j)
 
-  -- T8: log2(X/Y) is above the bar's logarithm less 2N + 2 units: raised to the units of a bit, a factor of 2 is one unit
+  -- T8: log2(X/Y) is above the bar's logarithm minus 2N + 2 units. Both sides are raised to the power unitsPerBit, so that a factor of 2 is one unit
   pub record Above (i j : ℕ) : Type 0 where
     pub ends : (i ≤ j) × (j < length h)
     pub above : partBar i j ^ unitsPerBit < partX i j ^ unitsPerBit * 2 ^ (2 * total h + 2)
 
-  -- T9: it is below the bar's logarithm plus 2N units
+  -- T9: log2(X/Y) is below the bar's logarithm plus 2N units
   pub record BelowBar (i j : ℕ) : Type 0 where
     pub below : partX i j ^ unitsPerBit < partBar i j ^ unitsPerBit * 2 ^ (2 * total h)
 
@@ -72,8 +72,8 @@ module _ (e : Closeness) (w : Direction) (h : List ℕ) where
         → pos (fittedMass h (blocks w h) i j .num * D)
         ≡ pos (fittedMass h (blocks w h) i j .den) *ℤ sumOf D (part i j (means (blocks w h)))
 
-  -- D2 and D3: what stands behind the verdict of the stretch h: its fit, the fitted masses that are the fit's, the exact relative entropy;
-  -- and a stretch that already goes the tested way has weight 0 in every part, so its cost is minus the bar
+  -- D2 and D3: what stands behind the verdict of the stretch h: its fit, fitted masses that are those of the fit, and the exact relative entropy.
+  -- A stretch that is already monotone in the tested direction has weight 0 in every part, so its cost is minus the bar
   pub record VerdictSound : Type 0 where
     pub fit : Pooled w h
     pub masses : (i j : ℕ) → i ≤ j → j < length h → MassOfFit i j

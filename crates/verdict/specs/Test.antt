@@ -1,5 +1,5 @@
 -- The test of a stretch: rules T1 to T6. Assumes nothing.
---   L, N, k      length h, total h, total of a part
+--   L, N, k      length h, total h, the total of a part
 --   Mass         a part's fitted mass A/B (num/den)
 --   bar, cost    Θ, and the largest weight W less Θ
 use Prim.Native.Nat.{ℕ, suc, _+_, _*_, _-_, _/_}
@@ -17,11 +17,11 @@ use Rattle.pooling.specs.Blocks.{Direction, blocks, placesFrom}
 use Rattle.verdict.specs.declared.Mass.{Mass}
 use Rattle.verdict.specs.declared.Verdict.{Verdict}
 
--- T4: bits of evidence that a stretch must show before it is rejected, beyond those that its number of parts asks for
+-- T4: how many bits of evidence a stretch must show before it is rejected, in addition to those that its number of parts calls for
 abbrev pub Closeness : Type 0
 Closeness = ℕ
 
--- G8: the largest that a call takes
+-- G8: the largest closeness that a call takes
 unfoldable pub mostCloseness : Closeness
 mostCloseness = 20
 
@@ -41,7 +41,7 @@ massOfThree tail sum len between head lastSum lastLen = record {
 }
 
 -- T2: the tail of the block at p, the bins between, the head of the block at q.
--- Bin i is in the first block, bin j in the second and the first ends at or before the second's start: no difference is ever negative
+-- Bin i is in the first block, bin j in the second, and the first ends at or before the second's start, so no difference is ever negative
 unfoldable pub massAcross : List ℕ → Place → Place → ℕ → ℕ → Mass
 massAcross h p q i j =
     let next = p .start + p .block .len in
@@ -54,7 +54,7 @@ fittedMass h bs i j =
     let q = placeOf bs j in
     cond (eqb (p .start) (q .start)) (massWithin p i j) (massAcross h p q i j)
 
--- T3: the four terms, as one difference of two sums; a term whose factor is 0 is 0. k ≤ N, and A ≤ NB: no other difference is ever negative
+-- T3: the four terms, as one difference of two sums; a term whose factor is 0 is 0. k ≤ N and A ≤ NB, so no other difference is ever negative
 unfoldable pub weight : ℕ → ℕ → Mass → ℤ
 weight n k m =
     subℕ (k * lg (k * m .den) + (n - k) * lg ((n - k) * m .den))
@@ -67,7 +67,7 @@ partWeight h bs i j = weight (total h) (total (part i j h)) (fittedMass h bs i j
 unfoldable pub bar : Closeness → ℕ → ℕ
 bar e l = lg (l * suc l / 2) + e * unitsPerBit
 
--- T5: over every part i ≤ j of the stretch, which has a bin
+-- T5: over every part from i to j, i ≤ j, of a stretch of one bin or more
 unfoldable pub largestWeight : List ℕ → List Block → ℤ
 largestWeight h bs = largest (length h - 1) (λ j. largest j (λ i. partWeight h bs i j))
 
@@ -75,7 +75,7 @@ largestWeight h bs = largest (length h - 1) (λ j. largest j (λ i. partWeight h
 unfoldable pub cost : Closeness → Direction → List ℕ → ℤ
 cost e w h = largestWeight h (blocks w h) -ℤ pos (bar e (length h))
 
--- T6: one bin is never rejected
+-- T6: one bin alone is never rejected
 unfoldable pub rejected : Closeness → Direction → List ℕ → Bool
 rejected e w h = leb 2 (length h) && leZ (pos 0) (cost e w h)
 

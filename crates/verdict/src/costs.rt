@@ -1,4 +1,4 @@
-// The best weight of a stretch's parts and its cost, as far as a cap: the search stops at the first weight that reaches it.
+// The best weight of a stretch's parts, and the stretch's cost, up to a cap: the search stops at the first weight that reaches the cap.
 use crate::parts::part_mass;
 use crate::parts::running_totals;
 use crate::parts::wide;
@@ -46,7 +46,7 @@ fn is_below(x: i64, y: i64) -> bool
     x < y
 }
 
-// Raises the best weight to those of the parts that end at bin j and begin from bin `first` up to bin `end`, as far as the limit.
+// The best weight after the parts that end at bin j and begin from bin `first` up to, but not including, `end`. The search stops once it reaches the limit.
 fn best_ending_at(
     h: &[u32],
     rising: bool,
@@ -81,7 +81,7 @@ fn best_ending_at(
     found
 }
 
-// Where the parts begin that a turn visits, of those that end at a bin whose block begins at `start`.
+// Of the parts that end at bin j, whose block begins at `start`, a turn visits those that begin from here up to, but not including, `end_of`.
 fn first_of(within: bool, start: usize) -> usize
     ensures { λ r. ⌜ r ≡ firstOf within start ⌝ }
 {
@@ -95,7 +95,7 @@ fn end_of(within: bool, start: usize, j: usize) -> usize
     if within { j + 1 } else { start }
 }
 
-// Raises the best weight to those of the parts within one block, or of the parts across blocks, as far as the limit.
+// The best weight after all parts within one block, or after all parts across blocks. The search stops once it reaches the limit.
 fn best_in_turn(
     h: &[u32],
     rising: bool,
@@ -137,8 +137,8 @@ fn best_in_turn(
     found
 }
 
-// The best weight of all parts, as far as the limit. A part within a block is likelier to reach it, so those come first.
-// The whole stretch, with no logarithm to take, is the part to begin with.
+// The best weight of all parts, up to the limit. Parts within a block are likelier to reach it, so they come first.
+// The search begins with the whole stretch, whose weight needs no logarithm.
 fn best_weight(
     h: &[u32],
     rising: bool,
@@ -157,7 +157,7 @@ fn best_weight(
     best_in_turn(h, rising, before, starts, sums, lens, false, inside, limit)
 }
 
-// The cost of a stretch of one bin or more where it is below the cap; else the cap or more.
+// The cost of a stretch of one bin or more, if that is below the cap; otherwise the cap or more.
 pub fn capped_cost(h: &[u32], rising: bool, closeness: u32, cap: i64) -> i64
     requires { ⌜ Small (now h) ⌝ }
     requires { ⌜ (1 ≤ length (now h)) × (closeness ≤ mostCloseness) ⌝ }

@@ -1,5 +1,5 @@
 // The test of a stretch of bins: how far its parts are from a monotone fit, and whether that is too far.
-// One closeness, one direction, one stretch; `judge` gives its verdict.
+// `judge` gives the verdict of one stretch in one direction at one closeness.
 mod costs;
 mod parts;
 mod signed;
@@ -15,7 +15,7 @@ ghost use Rattle.pooling.specs.Blocks.{direction};
 ghost use Rattle.verdict.specs.Test.{verdictOf, mostCloseness};
 ghost use Rattle.verdict.specs.Scratch.{Small};
 
-// Closeness: each step asks for one bit more of evidence before a stretch is rejected (rule T4).
+// The largest closeness. Each step of it asks for one more bit of evidence before a stretch is rejected (rule T4).
 pub const MOST_CLOSENESS: u32 = 20;
 
 // A part's fitted mass A/B (rules T1 and T2).

@@ -1,4 +1,4 @@
-// The parts of a stretch: what is kept of the stretch while they are tested, and the fitted mass of one.
+// The parts of a stretch: what is kept about the stretch while its parts are tested, and the fitted mass of a part.
 use crate::Mass;
 use pooling::Block;
 use pooling::Place;
@@ -15,7 +15,7 @@ pub fn wide(x: u32) -> u64
     x as u64
 }
 
-// The counts before each bin, and of all bins behind the last.
+// The sum of the counts before each bin, and in the place after the last bin the sum of all.
 pub fn running_totals(h: &[u32], before: &mut [u32; 258])
     requires { ⌜ Small (now h) ⌝ }
     requires { ⌜ length (now before) ≡ 258 ⌝ }
@@ -53,7 +53,7 @@ fn place_at(
     }
 }
 
-// A part within one block: so many of its bins, each at its mean.
+// A part within one block: the bins of the part, each at the mean of the block.
 fn mass_within(p: Place, i: usize, j: usize) -> Mass
     requires { ⌜ (i ≤ j) × (j < 257) × (p .block .sum ≤ 98304) ⌝ }
     ensures { λ r. ⌜ r ≡ massWithin p i j ⌝ }
@@ -64,7 +64,7 @@ fn mass_within(p: Place, i: usize, j: usize) -> Mass
     }
 }
 
-// So many bins of a first block, the counts between, and so many bins of a last block, over the product of the two lengths.
+// `tail` bins of a first block, the counts between, and `head` bins of a last block, over the product of the two blocks' lengths.
 fn mass_of_three(
     tail: u64,
     sum: u64,

@@ -1,11 +1,11 @@
-// Signed figures: the difference of two sums, the larger of two, the sign, and what is added or taken off.
+// Signed figures: the difference of two sums, the larger of two, the sign, and adding and subtracting an unsigned figure.
 ghost use mathlib.Core.Path.{_≡_};
 ghost use mathlib.Core.Bool.{cond};
 ghost use Prim.Native.Nat.{_<_, _^_};
 ghost use lib.IntN.{pos, subℕ, _+ℤ_, _-ℤ_};
 ghost use lib.Signed.{leZ, ltZ, mag};
 
-// a less b.
+// a minus b.
 pub fn difference(a: u64, b: u64) -> i64
     requires { ⌜ (a < 2 ^ 63) × (b < 2 ^ 63) ⌝ }
     ensures { λ r. ⌜ r ≡ subℕ a b ⌝ }
@@ -27,7 +27,7 @@ pub fn not_negative(x: i64) -> bool
     0 <= x
 }
 
-// x less b.
+// x minus b.
 pub fn less(x: i64, b: u64) -> i64
     requires { ⌜ (mag x < 2 ^ 62) × (b < 2 ^ 62) ⌝ }
     ensures { λ r. ⌜ r ≡ x -ℤ pos b ⌝ }
@@ -35,7 +35,7 @@ pub fn less(x: i64, b: u64) -> i64
     x - (b as i64)
 }
 
-// x and b together.
+// x plus b.
 pub fn sum(x: i64, b: u64) -> i64
     requires { ⌜ (mag x < 2 ^ 62) × (b < 2 ^ 62) ⌝ }
     ensures { λ r. ⌜ r ≡ x +ℤ pos b ⌝ }

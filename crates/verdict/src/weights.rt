@@ -1,4 +1,4 @@
-// The weight of a part of a stretch, and the bar that weights are held to.
+// The weight of a part of a stretch, and the bar that weights are compared with.
 use crate::Mass;
 use crate::signed::difference;
 use logarithm::Logarithm;
@@ -9,7 +9,7 @@ ghost use Rattle.logarithm.specs.Log.{lg};
 ghost use Rattle.verdict.specs.Test.{weight, bar, mostCloseness};
 ghost use Rattle.verdict.specs.Exactness.{LogsDefined};
 
-// A term whose factor holds all counts: the other factor is 0, and its logarithms are not taken.
+// The weight where one term has all n counts as its factor: the other term's factor is 0, and its logarithms are not taken.
 fn one_term(n: u64, p: u64, q: u64) -> i64
     requires { ⌜ (n ≤ 98304) × (1 ≤ p) × (p < 2 ^ 32) × (1 ≤ q) × (q < 2 ^ 32) ⌝ }
     ensures { λ r. ⌜ r ≡ subℕ (n * lg p) (n * lg q) ⌝ }
@@ -28,7 +28,7 @@ fn two_terms(k: u64, rest: u64, p: u64, s: u64, q: u64, t: u64) -> i64
     difference(k * l.a + rest * l.b, k * l.c + rest * l.d)
 }
 
-// The weight of a part that holds k of the n counts. Where the fitted mass is the count itself, no logarithm is taken.
+// The weight of a part that holds k of the n counts. If the fitted mass equals the count, no logarithm is taken.
 pub fn weight(n: u64, k: u64, m: Mass) -> i64
     requires { ⌜ (n ≤ 98304) × LogsDefined n k m ⌝ }
     ensures { λ r. ⌜ r ≡ weight n k m ⌝ }
@@ -46,7 +46,7 @@ pub fn weight(n: u64, k: u64, m: Mass) -> i64
     two_terms(k, rest, k * m.den, rest * m.den, m.num, n * m.den - m.num)
 }
 
-// The bar of a stretch of so many bins.
+// The bar of a stretch of `bins` bins.
 pub fn bar(closeness: u64, bins: u64) -> u64
     requires { ⌜ (closeness ≤ mostCloseness) × (1 ≤ bins) × (bins ≤ 257) ⌝ }
     ensures { λ r. ⌜ r ≡ bar closeness bins ⌝ }

@@ -1,5 +1,5 @@
 //! Swatches whose cards have as many entries as wanted, for the limit of 255: colours of far-apart hue, saturation and
-//! intensity bins, and greys of far-apart intensity bins. With enough pixels in each nothing joins.
+//! intensity bins, and greys of far-apart intensity bins. With enough pixels of each, nothing joins.
 
 use reference::cards::Pixel;
 use reference::measures::measures;

@@ -1,4 +1,4 @@
-//! The stored swatches and the examples: what they are made of, and where they are kept. The cards beside them are what
+//! The stored swatches and the examples: what they are made from, and where they are kept. The cards beside them are what
 //! the reference prints.
 
 use crate::{damaged, weaves, well_formed};
@@ -64,7 +64,7 @@ impl Folder {
         Ok(names.map(str::to_string).collect())
     }
 
-    /// The names of all files, sorted, but for those that begin with a point.
+    /// The names of all files, sorted, except those that begin with a dot.
     pub fn files(&self) -> Result<Vec<String>, String> {
         let wrong = |wrong| format!("{}: {wrong}", self.path.display());
         let mut names = Vec::new();

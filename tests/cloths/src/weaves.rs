@@ -23,7 +23,7 @@ pub fn examples() -> Vec<Made> {
     .to_vec()
 }
 
-/// The yarn of each thread, from stripes of so many threads each.
+/// The yarn of each thread, from stripes of this many threads each.
 fn threads(stripes: &[(Pixel, usize)]) -> Vec<Pixel> {
     let runs = stripes.iter().map(|&(yarn, count)| vec![yarn; count]);
     runs.flatten().collect()

@@ -87,7 +87,7 @@ fn served(name: &'static str, swatch: Swatch) -> Made {
     }
 }
 
-/// One row, so many pixels of each colour.
+/// One row, with this many pixels of each colour.
 fn row(runs: &[(Pixel, usize)]) -> Swatch {
     let runs = runs.iter().map(|&(pixel, count)| vec![pixel; count]);
     Swatch::row(runs.flatten().collect())

@@ -1,4 +1,4 @@
-//! Yarns, and cloths that are woven of them.
+//! Yarns, and cloths woven from them.
 
 use crate::random::Random;
 use crate::swatch::Swatch;

@@ -1,5 +1,5 @@
-//! The two card calls and the line of a ground, engine and reference side by side. Swatches are long, so that of a difference only the first
-//! entry, label or byte is shown.
+//! The two card calls and the line of a ground, engine and reference side by side. Swatches are long, so only the first
+//! entry, label or byte that differs is shown.
 
 use crate::card_groups::CardCase;
 use crate::comparison::{Difference, Tally};

@@ -17,7 +17,7 @@ pub struct CardCase {
 pub enum CardSource {
     /// A list, the same length in every run.
     List(fn(&mut Random) -> Vec<CardCase>),
-    /// Drawn of one shape with at most this many pixels, so many thousandths of the count.
+    /// Drawn from one shape with at most this many pixels; how many are drawn, in thousandths of the count.
     Draw(CardShape, usize, usize),
 }
 

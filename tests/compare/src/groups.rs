@@ -15,7 +15,7 @@ pub struct Case {
 pub enum Source {
     /// A list, the same length in every run.
     List(fn(&mut Random) -> Vec<Case>),
-    /// Drawn of one shape, so many hundredths of the count.
+    /// Drawn from one shape; how many, in hundredths of the count.
     Draw(Shape, usize),
 }
 
@@ -159,7 +159,7 @@ fn ties(_: &mut Random) -> Vec<Case> {
 fn every_length(random: &mut Random) -> Vec<Case> {
     let mut cases = Vec::new();
     for bins in 0..=300 {
-        // A shape wants two bins or more; shorter histograms are its first bins.
+        // A shape needs two bins or more; shorter histograms are its first bins.
         let mut histogram = SHAPES[bins % SHAPES.len()](random, bins.max(2));
         histogram.truncate(bins);
         cases.push(Case {

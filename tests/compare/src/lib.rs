@@ -1,4 +1,4 @@
-//! What the comparison is made of. The shapes and the lists of ties serve the maker of the conformance kit too.
+//! What the comparison consists of. The maker of the conformance kit uses the shapes and the lists of ties too.
 
 pub mod card_comparison;
 pub mod card_groups;

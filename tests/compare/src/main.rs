@@ -7,9 +7,9 @@
 //! CALLS is one of measures, fits, verdicts, lines, rings, cards, texts and stored. KISTROVU_LIB names another folder to
 //! take `libkistrovu.a` from; KISTROVU_CARD names the card program, which is then run on the stored swatches too.
 //! Without arguments the run is the same every time: all pixels, the listed histograms, lines, rings, swatches and texts,
-//! and drawn ones: `COUNT` histograms, and the shares of `COUNT` that the lists of groups give. Each group prints a
-//! line; at a difference the group ends with the input and both answers. The last line is the number of groups passed
-//! and failed, and the exit code is 1 if one failed.
+//! and random ones: `COUNT` histograms, and the shares of `COUNT` that the lists of groups give. Each group prints a
+//! line; at the first difference a group ends with the input and both answers. The last line is the number of groups
+//! passed and failed, and the exit code is 1 if one failed.
 
 use cloths::random::Random;
 use compare::card_groups::CARDS;

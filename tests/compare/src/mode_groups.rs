@@ -17,7 +17,7 @@ pub struct ModesCase {
 pub enum ModesSource {
     /// A list, the same length in every run.
     List(fn(&mut Random) -> Vec<ModesCase>),
-    /// Drawn of one shape, so many hundredths of the count.
+    /// Drawn from one shape; how many, in hundredths of the count.
     Draw(Shape, usize),
 }
 

@@ -1,4 +1,4 @@
-//! Random histograms for lines and rings, beside those of `shapes`.
+//! Random histograms for lines and rings, in addition to those of `shapes`.
 
 use crate::shapes::SHAPES;
 use cloths::random::Random;

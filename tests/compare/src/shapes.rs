@@ -4,7 +4,7 @@ use cloths::random::Random;
 
 pub type Shape = fn(&mut Random, usize) -> Vec<u32>;
 
-/// The shapes that long histograms are made of too.
+/// The shapes from which long histograms are made too.
 pub const SHAPES: [Shape; 8] = [
     noise,
     sparse,

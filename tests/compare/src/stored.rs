@@ -1,5 +1,5 @@
-//! The stored swatches of `swatches/` and of `examples/`: the engine's calls and, where KISTROVU_CARD names it, the card
-//! program, against the stored cards, byte for byte. The program is given very long texts too.
+//! The stored swatches of `swatches/` and of `examples/`: the engine's calls and, if KISTROVU_CARD names it, the card
+//! program are compared with the stored cards, byte for byte. The program is given very long texts too.
 
 use crate::card_comparison::shown;
 use crate::comparison::{Difference, Tally};

@@ -17,7 +17,7 @@ const BLACK_BESIDE_RED: &[u8] = b"     2     1\n   0   0   0\n 255   0   0\n";
 pub enum TextSource {
     /// A list, the same length in every run.
     List(fn(&mut Random) -> Vec<Vec<u8>>),
-    /// Drawn, so many thousandths of the count.
+    /// Random ones; how many, in thousandths of the count.
     Draw(fn(&mut Random) -> Vec<u8>, usize),
 }
 

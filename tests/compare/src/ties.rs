@@ -1,4 +1,4 @@
-//! Stretches whose cost, taken as increasing, is exactly 0 or next to it, found by search: at 0 a stretch is rejected.
+//! Stretches whose cost with an increasing fit is exactly 0 or next to it, found by search: at 0 a stretch is rejected.
 
 /// Cost, closeness, counts.
 pub const TIES: &[(i64, u32, &[u32])] = &[

@@ -1,4 +1,4 @@
-//! The files of the kit: each case run through both implementations, and written where they agree.
+//! The files of the kit: each case is run through both implementations, and written if they agree.
 
 use crate::calls::{engine, reference, Answer, Call};
 use crate::cases::{cards, fits, grounds, modes, pixels, texts, verdicts, Case};

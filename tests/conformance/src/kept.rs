@@ -1,4 +1,4 @@
-//! The kept cases: calls and answers, made from the records of a file and from nothing else.
+//! The stored cases: calls and answers, made only from the records of a file.
 
 use crate::calls::{Answer, Call, Figure, Listing};
 use crate::reading::{records, Record};

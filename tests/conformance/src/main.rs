@@ -3,7 +3,7 @@
 //!
 //!     cargo run --release -p conformance
 //!
-//! Where the two differ it names the case and writes nothing.
+//! If the two differ, it names the case and writes nothing.
 
 use conformance::files::{made, Made};
 use conformance::kept::folder;

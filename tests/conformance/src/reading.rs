@@ -1,5 +1,5 @@
-//! A reader of the kit as a stranger would write it, from what `vectors/README.md` says. It refuses whatever that page
-//! does not allow.
+//! A reader of the kit as an outsider would write it, from what `vectors/README.md` says. It refuses everything that that
+//! page does not allow.
 
 /// A record: the names of its lines, each with all of its values, and the line of the file where it begins.
 #[derive(Debug, PartialEq, Eq)]

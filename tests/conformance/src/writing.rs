@@ -4,7 +4,7 @@
 const WIDTH: usize = 110;
 /// The most groups of numbers that are looked at for coming again and again.
 const MOST_GROUPS: usize = 8;
-/// A repeat is written as one where it saves so many numbers.
+/// A repeat is written as one only if it saves this many numbers.
 const LEAST_SAVED: usize = 3;
 /// A line of a text that is one byte over and over is written as a repeat from this length on.
 const LEAST_RUN: usize = 30;
@@ -25,7 +25,7 @@ pub fn numbers(name: &str, values: &[i64], group: usize) -> String {
     lines + &line + "\n"
 }
 
-/// One line for each row of so many numbers.
+/// One line for each row of this many numbers.
 pub fn rows(name: &str, values: &[i64], columns: usize) -> String {
     if values.is_empty() {
         return format!("{name}\n");

@@ -1,4 +1,4 @@
-//! The kit as it is kept: it is what the maker makes, and read back it holds of both implementations.
+//! The kit as stored: it is what the maker makes, and read back it holds for both implementations.
 
 use conformance::calls::{engine, reference, Answer, Call};
 use conformance::files::made;

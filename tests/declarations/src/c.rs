@@ -1,4 +1,4 @@
-//! Checks in C and C++, written from the Rattle source alone. A compiler that takes them has seen the header agree.
+//! Checks in C and C++, written from the Rattle source alone. If a compiler accepts them, the header agrees.
 
 use super::rattle::{Argument, Call, Field, Item, Source, Struct};
 use std::iter::once;
@@ -115,7 +115,7 @@ pub fn checks(source: &Source, values: &[(String, u64)]) -> String {
         .collect()
 }
 
-/// The check in C++: each call declared once more with C linkage, which contradicts one that has not got it.
+/// The check in C++: each call is declared once more with C linkage, which contradicts a declaration without it.
 pub fn linkage_checks(source: &Source) -> String {
     let again = source.calls.iter().map(|call| {
         let (name, answer) = (&call.name, item(&call.answer));

@@ -111,7 +111,7 @@ fn expected_struct(made: &Struct) -> (String, Vec<String>) {
     (struct_name(&made.name), fields.collect())
 }
 
-/// The names that are defined, but for the guard.
+/// The names that are defined, except the guard.
 fn macros(text: &str) -> Vec<String> {
     let defined = text.lines().filter_map(|line| {
         let line = line.trim_start().strip_prefix('#')?;

@@ -1,5 +1,5 @@
-//! C's layout rule: fields in order, each at the next place that its alignment divides, and the whole filled up to its
-//! own alignment, which is the largest among its fields.
+//! C's layout rule: fields in order, each at the next multiple of its alignment, and the whole padded to its own
+//! alignment, which is the largest among its fields.
 
 use super::rattle::{Field, Item, Source, Struct};
 

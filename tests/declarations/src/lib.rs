@@ -1,6 +1,7 @@
-//! Holds the C header and the Rust declarations of the public calls against the Rattle source that exports them.
-//! Neither is covered by the proof; both are written by hand. From the source alone this crate reckons how every answer
-//! is laid out and writes checks that a compiler refuses where a declaration differs; a scan finds what is left over.
+//! Compares the C header and the Rust declarations of the public calls with the Rattle source that exports them.
+//! Neither is covered by the proof; both are written by hand. From the source alone this crate computes how every answer
+//! is laid out and writes checks that a compiler refuses if a declaration differs; a scan finds declarations that the
+//! source does not have.
 
 pub mod c;
 pub mod grounds;
@@ -31,7 +32,7 @@ pub const FILES: [&str; 6] = [
     "crates/card/src/main.rt",
 ];
 
-/// The words of the grounds, their definitions, and the declarations that are held against all of these.
+/// The words of the grounds, their definitions, and the declarations that are compared with all of these.
 pub const METHOD: &str = "docs/METHOD.md";
 pub const GROUNDS: &str = "crates/kistrovu/specs/Grounds.antt";
 pub const HEADER: &str = "include/kistrovu.h";

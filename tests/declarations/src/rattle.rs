@@ -1,5 +1,5 @@
 //! What the Rattle source exports: its calls, the structs that they hand back, and the constants that say how long
-//! arrays are. Reading is strict: whatever is marked as exported is understood whole, or it is an error.
+//! arrays are. Reading is strict: whatever is marked as exported is understood completely, or it is an error.
 
 use super::tokens::{tokens, without_comments, Cursor};
 use std::collections::BTreeMap;

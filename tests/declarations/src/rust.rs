@@ -1,4 +1,4 @@
-//! Checks in Rust of the declarations of bindings/rust, written from the Rattle source. They speak of a module `raw`.
+//! Checks in Rust of the declarations of bindings/rust, written from the Rattle source. They refer to a module `raw`.
 
 use super::rattle::{Argument, Call, Field, Item, Source, Struct};
 use super::same;

@@ -1,4 +1,4 @@
-//! The source is read whole and strictly, and a source that has changed is seen in the header.
+//! The source is read completely and strictly, and if it has changed, the header no longer agrees with it.
 
 use declarations::grounds::Grounds;
 use declarations::rattle::Source;

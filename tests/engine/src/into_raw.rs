@@ -1,4 +1,4 @@
-//! The reference's answers in the form in which the engine's come back, so that the two can be compared.
+//! The reference's answers in the form of the engine's, so that the two can be compared.
 
 use kistrovu::raw;
 use reference::{calls, cards};

@@ -1,6 +1,6 @@
-//! The engine's public calls through the declarations of `bindings/rust`, as the comparison wants them: whatever is only
+//! The engine's public calls through the declarations of `bindings/rust`, as the comparison needs them: whatever is only
 //! read is lent for writing too, so that the caller can see whether it came back as lent. Flags come back as bytes and
-//! are compared as bytes, so that one which is neither 0 nor 1 shows up as a difference.
+//! are compared as bytes, so that a flag that is neither 0 nor 1 shows up as a difference.
 
 mod into_raw;
 

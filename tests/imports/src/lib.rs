@@ -1,7 +1,7 @@
 //! Imports that a file of Rattle or antt does not use.
 //!
-//! A name is used when it stands as a word outside of imports and comments; of an operator such as `_+_` each of its
-//! signs must stand. What `pub use` brings in is passed on, and counts as used.
+//! A name is used if it occurs as a word outside of imports and comments; for an operator such as `_+_`, each of its signs
+//! must occur. What `pub use` brings in is passed on, and counts as used.
 
 use std::collections::HashSet;
 

@@ -1,4 +1,4 @@
-//! No file of the crates imports what it does not use, and an import that is not used is noticed.
+//! No file of the crates imports what it does not use, and an unused import is noticed.
 
 use imports::{unused, Language};
 use std::fs;

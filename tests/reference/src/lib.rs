@@ -1,7 +1,7 @@
 //! A second implementation of docs/METHOD.md: a pixel's measures, pooling, the logarithm, the test, modes of lines
-//! and rings, the card, the card program's texts, and the public calls built of them. It is written to be read beside
-//! the rules, clear before fast, and on purpose by other means than the engine, so that a slip in one is unlikely to be
-//! found in the other as well.
+//! and rings, the card, the card program's texts, and the public calls built from them. It is written to be read beside
+//! the rules, clear rather than fast, and deliberately by other means than the engine, so that a slip in one is unlikely
+//! to occur in the other as well.
 //!
 //! One module for each section of the rules. To run its own tests: `cargo test -p reference` in
 //! `tests/`.

@@ -1,6 +1,6 @@
-//! Pooling, by the greatest convex minorant: draw the running sums over the bins as points, stretch a string below
-//! them from the first to the last, and the string's straight pieces are the blocks of the increasing fit, its slopes
-//! their means.
+//! Pooling, by the greatest convex minorant: draw the running sums over the bins as points, and stretch a string below
+//! them from the first to the last. The string's straight pieces are the blocks of the increasing fit, and their slopes
+//! are the means.
 
 /// A block's bins are `first` and the `len` − 1 after it; its mean is `sum` over `len`.
 #[derive(Clone, Copy, Debug, PartialEq, Eq)]

@@ -1,4 +1,4 @@
-//! The ring: a line from its lowest bin round to that bin again.
+//! The ring: a line from its lowest bin once round and back to that bin.
 
 use crate::lines;
 

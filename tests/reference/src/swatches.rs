@@ -46,7 +46,7 @@ fn fields(line: &[u8], columns: usize) -> Option<Vec<u64>> {
     line.chunks(columns).map(field).collect()
 }
 
-/// The number that, printed in so many columns, gives exactly this text.
+/// The number that, printed in this many columns, gives exactly this text.
 fn field(text: &[u8]) -> Option<u64> {
     let text = std::str::from_utf8(text).ok()?;
     let number = text.trim_start().parse().ok()?;

@@ -1,4 +1,4 @@
-//! Cards of small swatches, and what holds of every card.
+//! Cards of small swatches, and what holds for every card.
 
 use reference::cards::{card, Entry, Pixel};
 use reference::measures::measures;

@@ -14,7 +14,7 @@ fn the_swatch_that_are_given() {
     );
 }
 
-/// A header, and so many black pixels.
+/// A header, and this many black pixels.
 fn black(header: &str, pixels: usize) -> Vec<u8> {
     let lines = "   0   0   0\n".repeat(pixels);
     format!("{header}\n{lines}").into_bytes()

@@ -1,5 +1,5 @@
 //! What several of the tests read: files of the repository, and the pixels of a swatch's text.
-// Each test takes what it needs of it.
+// Each test uses only what it needs.
 #![allow(dead_code)]
 
 use std::fs;
@@ -31,8 +31,8 @@ pub fn pixels(swatch: &str) -> Vec<u8> {
     fields.map(|field| field.parse().expect("a byte")).collect()
 }
 
-/// So many pixels of a cube of 8 × 8 × 8 colours, one after the other. From 32 of each on its card would have more
-/// than 255 entries.
+/// This many pixels of a cube of 8 × 8 × 8 colours, one after the other. With 32 or more of each, its card would have
+/// more than 255 entries.
 pub fn cube(pixels: usize) -> Vec<u8> {
     let level = |place: usize| 36 * (place % 8) as u8;
     let colour = |place| [level(place), level(place / 8), level(place / 64)];

@@ -2,7 +2,7 @@
 //!
 //!     cargo run --release -p cloths
 //!
-//! A stored text that is made no longer is taken away with its card.
+//! A stored text that is no longer made is removed with its card.
 
 use cloths::stored::{folders, printed, Folder};
 use std::fs;

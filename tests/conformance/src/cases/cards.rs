@@ -97,7 +97,7 @@ fn one_pixel() -> Vec<Case> {
     pixels.into_iter().map(one).collect()
 }
 
-/// Images that speak for one rule each: the rule, a closeness, and so many pixels of each colour.
+/// Images that show one rule each: the rule, a closeness, and how many pixels there are of each colour.
 type Rule = (&'static str, u32, &'static [(Pixel, usize)]);
 
 const RULES: &[Rule] = &[
@@ -278,7 +278,7 @@ fn label_counts() -> Vec<Case> {
     few.into_iter().chain(many).collect()
 }
 
-/// Ground 11 from both sides: with so many pixels for each entry none is joined.
+/// Ground 11 from both sides: with this many pixels for each entry, none is joined.
 fn entry_counts() -> Vec<Case> {
     let full = |entries: usize, each: usize| {
         let colours = full_cards::colours(entries);

@@ -1,5 +1,5 @@
-//! Histograms that serve several calls: the limits of grounds 6 and 7, small ones that speak for a rule, and the shapes
-//! from which others are drawn.
+//! Histograms for several calls: the limits of grounds 6 and 7, small ones that show a rule, and the shapes from which
+//! random ones are drawn.
 
 use compare::shapes::{self, Shape};
 use reference::calls::MOST_BINS;
@@ -116,7 +116,7 @@ pub fn telling() -> Vec<Named> {
     ])
 }
 
-/// Every histogram of so many bins with these counts.
+/// Every histogram of this many bins with these counts.
 pub fn every(bins: u32, counts: &[u32]) -> Vec<Vec<u32>> {
     let digit = |code: usize, bin| counts[code / counts.len().pow(bin) % counts.len()];
     let all = 0..counts.len().pow(bins);

@@ -1,4 +1,4 @@
-//! The cases of the kit, by call. Answers are no part of them.
+//! The cases of the kit, by call. Answers are not part of them.
 
 pub mod cards;
 pub mod fits;

@@ -1,4 +1,4 @@
-//! Pixels for the measures: every limit from both sides, and drawn ones.
+//! Pixels for the measures: every limit from both sides, and random ones.
 
 use super::Case;
 use crate::calls::Call;
