@@ -32,6 +32,7 @@ ghost use Rattle.kistrovu.specs.Facts.{IfServed, RingList};
 
 mod grounds;
 mod printing;
+mod swatch_cards;
 
 // 10,000 times the major number, plus 100 times the minor one, plus the patch. The file VERSION is its source: tools/version writes it here.
 const VERSION: u32 = 10000;

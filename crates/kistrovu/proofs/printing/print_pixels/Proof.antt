@@ -24,10 +24,10 @@ use Rattle.kistrovu.proofs.printing.print_pixels.Statement.{statement}
 use Rattle.kistrovu.proofs.printing.print_pixels.Tie as tie
 
 make-card-requires : tie.Need-make-card-requires
-unfolding mostPixels mostSwatchPixels mostCloseness
+unfolding mostCloseness
 make-card-requires c κs =
     let p = c .before .before .before .before .pre in
-    (p .0, omega (arith, p .1), omega arith)
+    (p .0, p .1, omega arith)
 
 cast-if1 : tie.Need-cast-if1
 cast-if1 c = search needs
