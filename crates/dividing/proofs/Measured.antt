@@ -1,6 +1,7 @@
 -- A range measured in one pass: the bins of the pixels passed are kept and counted. Assumes nothing.
 use Prim.Native.Nat.{ℕ, _+_, _≤_, _<_}
 use mathlib.Core.Path.{_≡_, refl, sym, ap, _∙_}
+use mathlib.Core.Bool.{false}
 use mathlib.Core.List.{List}
 use native.Mathlib.Omega.{arith}
 use lib.ListN.{length, take, getD, set, replicate, length-set}
@@ -9,6 +10,7 @@ use Rattle.lists.specs.Lists.{over}
 use Rattle.lists.proofs.Buffers.{over-none}
 use Rattle.lists.proofs.Writes.{over-next, over-done}
 use Rattle.pixel.specs.declared.Pixel.{Pixel}
+use Rattle.pixel.specs.Colour.{isGrey, huePoint, hueOf, hueBin}
 use Rattle.palette.specs.Levels.{Level, binCount, binOf}
 use Rattle.palette.specs.Cards.{pixelsOf}
 use Rattle.palette.specs.Sound.{pixelAt}
@@ -18,6 +20,11 @@ use Rattle.dividing.specs.Sorted.{tally}
 use Rattle.dividing.specs.Splitting.{binsOf, BinsCounted}
 use Rattle.dividing.proofs.Tallies.{tally-le, tally-none, tally-more}
 use Rattle.dividing.proofs.Ranges.{bins-length, bins-at}
+
+-- a colour's hue needs no test for grey
+pub coloured-hue : (p q : Pixel) (bin : ℕ) → p ≡ q → isGrey q ≡ false → bin ≡ hueOf (huePoint p) → bin ≡ hueBin p
+unfolding hueBin
+coloured-hue p q bin e g b = rw (ap isGrey e ∙ g) b
 
 -- after i pixels of the range
 pub record Passed (bytes : List ℕ) (l : Level) (xs lent : List ℕ) (i : ℕ) (keys h : List ℕ) : Type 0 where

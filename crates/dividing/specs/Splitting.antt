@@ -5,14 +5,16 @@
 --   Split                 how the code holds it
 use Prim.Native.Nat.{ℕ, zero, suc, _+_, _*_, _<_}
 use mathlib.Core.Path.{_≡_}
+use mathlib.Core.Bool.{false}
 use mathlib.Core.List.{List, [], _∷_, _++_, map, flatMap}
 use lib.ListN.{length, take, drop, getD}
 use lib.Seq.{sets}
 use Rattle.lists.specs.Lists.{numbers, firstIndex, filter}
 use Rattle.pixel.specs.declared.Pixel.{Pixel}
+use Rattle.pixel.specs.Colour.{isGrey}
 use Rattle.verdict.specs.Test.{Closeness}
 use Rattle.palette.specs.Levels.{Level, hue, saturation, intensity, binCount, binOf, modesAt, liesIn}
-use Rattle.palette.specs.Cards.{Branch}
+use Rattle.palette.specs.Cards.{Branch, pixelsOf}
 use Rattle.palette.specs.Sound.{pixelAt}
 use Rattle.dividing.specs.Sorted.{tally, marked, sortedBy}
 
@@ -38,6 +40,10 @@ pub record Leaf : Type 0 where
 -- each number is that of a pixel, whose bytes stand three to a pixel
 abbrev pub AllIn : List ℕ → List ℕ → Type 0
 AllIn xs bytes = (i : ℕ) → i < length xs → 3 * getD xs i 0 + 2 < length bytes
+
+-- each is a coloured pixel's
+abbrev pub AllColours : List ℕ → List ℕ → Type 0
+AllColours xs bytes = (i : ℕ) → i < length xs → isGrey (pixelAt (pixelsOf bytes) (getD xs i 0)) ≡ false
 
 -- the bin of each of the pixels that are given by their numbers
 unfoldable pub binsOf : List Pixel → Level → List ℕ → List ℕ

@@ -2,13 +2,14 @@
 use crate::Node;
 use crate::kinds::sort_kinds;
 use crate::levels::split;
+use crate::sorting::copy;
 ghost use mathlib.Core.Path.{_≡_};
 ghost use Prim.Native.Nat.{_≤_, _<_, _*_, _+_, _^_};
 ghost use lib.ListN.{length};
 ghost use Rattle.verdict.specs.Test.{mostCloseness};
 ghost use Rattle.palette.specs.Cards.{pixelsOf};
 ghost use Rattle.palette.specs.Sound.{mostPixels};
-ghost use Rattle.dividing.specs.Splitting.{AllIn, resting, Split};
+ghost use Rattle.dividing.specs.Splitting.{AllIn, AllColours, resting, Split};
 ghost use Rattle.dividing.specs.Kinds.{leavesSome, PixelsDivided};
 
 // Splits a range, if it has pixels.
@@ -22,7 +23,8 @@ fn split_some(
     sizes: &mut [u32],
 ) -> usize
     requires { ⌜ (node .left ≤ 3) × (node .closeness ≤ mostCloseness) × (node .found + 64 ^ node .left ≤ 2 ^ 32) × ((node .code + 1) * 64 ^ node .left ≤ 2 ^ 20) ⌝ }
-    requires { ⌜ (length (now order) ≡ length (now other)) × (length (now order) ≤ length (now keys)) × (length (now order) ≤ mostPixels) × AllIn (now order) (now pixels) ⌝ }
+    requires { ⌜ (length (now order) ≡ length (now other)) × (length (now order) ≤ length (now keys)) × (length (now order) ≤ mostPixels) × AllIn (now order) (now pixels)
+        × (node .left ≡ 3 → AllColours (now order) (now pixels)) ⌝ }
     ensures { λ r. ⌜ Split (leavesSome (node .closeness) (pixelsOf (now (pixels .entry))) (node .left) (node .code) (now (order .entry))) (node .found)
         (now (codes .entry)) (now (sizes .entry)) (now (codes .exit)) (now (sizes .exit)) (resting (node .left) (now (order .exit)) (now (other .exit))) r ⌝ }
 {
@@ -30,18 +32,6 @@ fn split_some(
         return node.found;
     }
     split(node, pixels, order, other, keys, codes, sizes)
-}
-
-// Copies one list into another of the same length.
-fn copy(source: &[u16], list: &mut [u16])
-    requires { ⌜ length (now source) ≡ length (now list) ⌝ }
-    ensures { λ _. ⌜ now (list .exit) ≡ now (source .entry) ⌝ }
-{
-    let mut i = 0;
-    while i < list.len() {
-        list[i] = source[i];
-        i += 1;
-    }
 }
 
 // Divides the pixels: how many entries there are. Their pixels' numbers are left in `order`, entry by entry; codes and sizes as far as there is room.

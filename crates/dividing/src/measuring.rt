@@ -1,6 +1,6 @@
 // The bins of a range of pixels at one level, each kept and counted in the same pass.
 use pixel::Pixel;
-use pixel::hue_bin;
+use pixel::hue_of;
 use pixel::intensity_bin;
 use pixel::saturation_bin;
 ghost use mathlib.Core.Path.{_≡_};
@@ -9,7 +9,7 @@ ghost use lib.ListN.{length};
 ghost use Rattle.palette.specs.Levels.{hue, saturation, intensity};
 ghost use Rattle.palette.specs.Cards.{pixelsOf};
 ghost use Rattle.palette.specs.Sound.{pixelAt, mostPixels};
-ghost use Rattle.dividing.specs.Splitting.{AllIn, BinsCounted};
+ghost use Rattle.dividing.specs.Splitting.{AllIn, AllColours, BinsCounted};
 
 pub fn pixel_at(pixels: &[u8], i: usize) -> Pixel
     requires { ⌜ 3 * i + 2 < length (now pixels) ⌝ }
@@ -23,14 +23,15 @@ pub fn pixel_at(pixels: &[u8], i: usize) -> Pixel
     }
 }
 
+// Only colours have a hue, and only colours come here: so no pixel is tested for grey again.
 pub fn hue_histogram(pixels: &[u8], order: &[u16], keys: &mut [u8]) -> [u32; 60]
-    requires { ⌜ (length (now order) ≡ length (now keys)) × (length (now keys) ≤ mostPixels) × AllIn (now order) (now pixels) ⌝ }
+    requires { ⌜ (length (now order) ≡ length (now keys)) × (length (now keys) ≤ mostPixels) × AllIn (now order) (now pixels) × AllColours (now order) (now pixels) ⌝ }
     ensures { λ r. ⌜ BinsCounted (pixelsOf (now (pixels .entry))) hue (now (order .entry)) (now (keys .exit)) r ⌝ }
 {
     let mut h = [0u32; 60];
     let mut i = 0;
     while i < order.len() {
-        let bin = hue_bin(pixel_at(pixels, order[i] as usize));
+        let bin = hue_of(pixel_at(pixels, order[i] as usize));
         keys[i] = bin;
         let k = bin as usize;
         h[k] = h[k] + 1;

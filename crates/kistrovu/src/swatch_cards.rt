@@ -17,7 +17,5 @@ pub fn make_card(pixels: &[u8], closeness: u32, labels: &mut [u8]) -> CardEntrie
     let mut order = [0u16; MOST_SWATCH_PIXELS];
     let mut other = [0u16; MOST_SWATCH_PIXELS];
     let mut keys = [0u8; MOST_SWATCH_PIXELS];
-    making::card_in(
-        pixels, closeness, labels, &mut order, &mut other, &mut keys,
-    )
+    making::card_in(pixels, closeness, labels, &mut order, &mut other, &mut keys)
 }

@@ -229,7 +229,8 @@ fn turned_back(p: Pixel) -> Turned
     }
 }
 
-fn hue_of(p: Pixel) -> u8
+// The hue bin of a coloured pixel.
+pub fn hue_of(p: Pixel) -> u8
     ensures { λ r. ⌜ r ≡ hueOf (huePoint p) ⌝ }
 {
     let t = turned_back(p);

@@ -114,7 +114,7 @@ split-some-requires c κs =
     let p = entry k .pre in
     let l = laid k in
     let long = greys-long (bytes k) (order k) (other k) (greys k) (all k) l in
-    ((omega arith, p .4, omega arith, omega arith), (greys-room (bytes k) (order k) (other k) (greys k) (all k) l, omega (arith, long, l .some, p .2), omega (arith, long, l .some, p .3), l .greysIn))
+    ((omega arith, p .4, omega arith, omega arith), (greys-room (bytes k) (order k) (other k) (greys k) (all k) l, omega (arith, long, l .some, p .2), omega (arith, long, l .some, p .3), l .greysIn, λ e. absurd (omega arith)))
 
 slice-relend-prefix-split-some-2 : tie.Need-slice-relend-prefix-split-some-2
 slice-relend-prefix-split-some-2 c = search needs
@@ -148,9 +148,10 @@ split-some-requires-2 c κs =
     let lv = f .split-some .kept .1 .1 .1 .0 in
     let long = colours-long (bytes k) (order k) (other k) (greys k) (all k) l (u f) (v f) lu lv in
     let room = colours-room (bytes k) (order k) (other k) (greys k) (all k) l (u f) (v f) lu lv in
+    let lent = colours-lent (bytes k) (order k) (other k) (greys k) (all k) l (u f) (v f) lu lv in
     let few = some-few (entry k .args .closeness) (pixelsOf (bytes k)) 1 0 (take (greys k) (order k)) in (
       (omega arith, p .4, omega (arith, few, f .split-some .ensures .count), omega arith),
-      (room, omega (arith, long, l .order, p .2, f .split-some .kept .1 .1 .1 .1 .0), omega (arith, long, l .order, p .3), rw (colours-lent (bytes k) (order k) (other k) (greys k) (all k) l (u f) (v f) lu lv) (l .coloursIn)),
+      (room, omega (arith, long, l .order, p .2, f .split-some .kept .1 .1 .1 .1 .0), omega (arith, long, l .order, p .3), rw lent (l .coloursIn), λ e. rw lent (l .coloured)),
     )
 
 mul-copy : tie.Need-mul-copy

@@ -24,7 +24,7 @@ split-requires : tie.Need-split-requires
 split-requires c κs =
     let p = c .before .before .before .before .before .before .before .before .before .before .before .before .pre .0 in
     let d = c .before .before .before .before .before .before .before .before .before .before .before .before .pre .1 in
-    ((p .0, p .1, p .2, p .3), (d .0, d .1, d .2, d .3))
+    ((p .0, p .1, p .2, p .3), (d .0, d .1, d .2, d .3, d .4))
 
 same-length : tie.Need-same-length
 same-length c = search needs
