@@ -1,15 +1,15 @@
 -- What splitting asks of walking and walking of splitting, and how their results come together. Assumes nothing.
 use Prim.Native.Nat.{ℕ, zero, suc, _+_, _*_, _-_, _^_, _≤_, _<_}
 use mathlib.Core.Path.{_≡_, refl, sym, ap, ap₂, _∙_}
-use mathlib.Core.List.{List, [], _∷_, _++_, append-nil}
+use mathlib.Core.List.{List, [], _∷_, _++_, append-nil, append-assoc}
 use native.Mathlib.Omega.{arith}
 use native.Mathlib.Numerals.{add-one}
 use native.Mathlib.Nat.{mul-le-mul-left, mul-le-mul-right}
-use lib.ListN.{length, take, drop, getD, length-append, length-drop, length-map, drop-of-length-le, take-append-drop}
-use lib.Seq.{take-all, take-at, drop-at, length-take-le, getD-take, getD-drop}
-use borrow.Rule.Slice.PartMut.{putMid, postOf}
+use lib.ListN.{length, take, drop, getD, length-append, length-drop, length-map, drop-of-length-le}
+use lib.Seq.{take-all, take-at, drop-at, take-suc, take-add, drop-drop, take-append-le, drop-append-le, length-take-le, getD-take, getD-drop}
+use borrow.Rule.Slice.PartMut.{putMid, same-len-mid}
 use Rattle.lists.specs.Lists.{total}
-use Rattle.lists.proofs.Sums.{total-split}
+use Rattle.lists.proofs.Sums.{total-more, total-take-le}
 use Rattle.lists.proofs.Places.{map-at}
 use Rattle.pixel.specs.declared.Pixel.{Pixel}
 use Rattle.verdict.specs.Test.{Closeness}
@@ -35,7 +35,6 @@ marks-in e l keys below i k =
 pub record Walkable (left code found : ℕ) (bytes xs sizes sorted : List ℕ) (n : ℕ) : Type 0 where
   pub fits : n ≤ length sizes
   pub long : length (take n sizes) ≡ n
-  pub falls : 128 * (left - 1) + 1 + length (take n sizes) < 128 * left
   pub room : found + length (take n sizes) * 64 ^ (left - 1) ≤ 2 ^ 32
   pub digits : (code * 64 + length (take n sizes)) * 64 ^ (left - 1) ≤ 2 ^ 20
   pub inside : AllIn sorted bytes
@@ -58,7 +57,6 @@ split-walkable e bytes byte left code found xs sizes sorted n some room digits i
     record {
       fits = omega arith;
       long = long;
-      falls = omega arith;
       room = rw long (omega arith);
       digits = rw long (omega (arith, ap (λ (j : ℕ). code * j) more));
       inside = rw (s .order) (sorted-in 64 ks xs bytes inside);
@@ -76,18 +74,12 @@ split-walked e ps (suc left) code found xs sizes sorted n codes figures codes′
     let all = walk-all e ps (suc left) code xs sizes sorted n some (s .modes) few (s .counts) (s .order) in
     rw (z) at (rw all at r)
 
--- ---- a range cut in two: the first part is lent and comes back, and then the rest
+-- ---- a list lent from a place on
 abbrev pub sliceFrom : ℕ → List ℕ → List ℕ
 sliceFrom k xs = take (length xs - k) (drop k xs)
 
 abbrev pub putFrom : ℕ → List ℕ → List ℕ → List ℕ
 putFrom k xs w = putMid k (length xs - k) xs w
-
-abbrev pub restOf : ℕ → List ℕ → List ℕ → List ℕ
-restOf s xs u = sliceFrom s (u ++ drop s xs)
-
-abbrev pub putRest : ℕ → List ℕ → List ℕ → List ℕ → List ℕ
-putRest s xs u w = putFrom s (u ++ drop s xs) w
 
 pub from-is : (k : ℕ) (xs : List ℕ) → sliceFrom k xs ≡ drop k xs
 from-is k xs = take-all (length xs - k) (drop k xs) (omega (arith, length-drop k xs))
@@ -97,106 +89,159 @@ put-from k xs w =
     ap (λ (y : List ℕ). take k xs ++ (w ++ y)) (drop-of-length-le (drop k xs) {i = length xs - k} (omega (arith, length-drop k xs)))
     ∙ ap (λ (y : List ℕ). take k xs ++ y) (append-nil w)
 
-pub rest-is : (s : ℕ) (xs u : List ℕ) → s ≤ length xs → length u ≡ length (take s xs) → restOf s xs u ≡ drop s xs
-rest-is s xs u l e = from-is s (u ++ drop s xs) ∙ drop-at u (drop s xs) s (e ∙ length-take-le s xs l)
-
-put-is : (s : ℕ) (xs u w : List ℕ) → s ≤ length xs → length u ≡ length (take s xs) → putRest s xs u w ≡ u ++ w
-put-is s xs u w l e = put-from s (u ++ drop s xs) w ∙ ap (λ (y : List ℕ). y ++ w) (take-at u (drop s xs) s (e ∙ length-take-le s xs l))
-
-pub put-length : (s : ℕ) (xs u w : List ℕ) → s ≤ length xs → length u ≡ length (take s xs) → length w ≡ length (restOf s xs u) → length (putRest s xs u w) ≡ length xs
-put-length s xs u w l e f =
-    ap length (put-is s xs u w l e) ∙ length-append u w
-    ∙ omega (arith, f, ap length (rest-is s xs u l e), length-take-le s xs l, length-drop s xs, e)
-
--- ---- from walking to splitting, and on
-walked-more : (e : Closeness) (ps : List Pixel) (left code : ℕ) (parts xs : List ℕ) → 1 ≤ length parts
-    → walked e ps left code parts xs ≡ leaves e ps left code (take (getD parts 0 0) xs) ++ walked e ps left (code + 1) (drop 1 parts) (drop (getD parts 0 0) xs)
+-- ---- what walking gives: of one range more, and how much
+walked-last : (e : Closeness) (ps : List Pixel) (left code : ℕ) (ss : List ℕ) (s : ℕ) (xs ys : List ℕ) → total ss ≡ length xs → length ys ≡ s
+    → walked e ps left code (ss ++ (s ∷ [])) (xs ++ ys) ≡ walked e ps left code ss xs ++ leaves e ps left (code + length ss) ys
 unfolding walked
-walked-more e ps left code [] xs l = absurd (omega arith)
-walked-more e ps left code (s ∷ parts) xs l = ap (λ (j : ℕ). leaves e ps left code (take s xs) ++ walked e ps left j parts (drop s xs)) (sym (add-one code))
+walked-last e ps left code [] s (x ∷ xs) ys t l = absurd (omega arith)
+walked-last e ps left code [] s [] ys t l =
+    let z : code ≡ code + 0 = omega arith in
+    append-nil (leaves e ps left code (take s ys)) ∙ ap₂ (leaves e ps left) z (take-all s ys (omega arith))
+walked-last e ps left code (r ∷ ss) s xs ys t l =
+    let fits : r ≤ length xs = omega arith in
+    let z : suc code + length ss ≡ code + suc (length ss) = omega arith in
+    ap₂ (λ (a b : List ℕ). leaves e ps left code a ++ walked e ps left (suc code) (ss ++ (s ∷ [])) b) (take-append-le r xs ys fits) (drop-append-le r xs ys fits)
+    ∙ ap (λ ls. leaves e ps left code (take r xs) ++ ls)
+    (walked-last e ps left (suc code) ss s (drop r xs) ys (omega (arith, length-drop r xs)) l ∙ ap (λ (j : ℕ). walked e ps left (suc code) ss (drop r xs) ++ leaves e ps left j ys) z)
+    ∙ sym (append-assoc (leaves e ps left code (take r xs)) (walked e ps left (suc code) ss (drop r xs)) (leaves e ps left (code + suc (length ss)) ys))
 
-pub walked-none : (e : Closeness) (ps : List Pixel) (left code found : ℕ) (parts xs codes sizes a b : List ℕ) → length parts ≡ 0 → total parts ≡ length xs → a ≡ xs → length b ≡ length xs
-    → Split (walked e ps left code parts xs) found codes sizes codes sizes (resting left a b) found
+walked-few : (e : Closeness) (ps : List Pixel) (left code : ℕ) (ss xs : List ℕ) → length (walked e ps left code ss xs) ≤ length ss * 64 ^ left
 unfolding walked
-walked-none e ps left code found (s ∷ parts) xs codes sizes a b z t p q = absurd (omega arith)
-walked-none e ps left code found [] (x ∷ xs) codes sizes a b z t p q = absurd (omega arith)
-walked-none e ps left code found [] [] codes sizes a (y ∷ b) z t p q = absurd (omega arith)
-walked-none e ps left code found [] [] codes sizes a [] z t p q = rw (p, none left) (split-none found codes sizes)
-  where
-    none : (n : ℕ) → resting n [] [] ≡ []
-    none zero = refl
-    none (suc n) = none n
+walked-few e ps left code [] xs = omega arith
+walked-few e ps left code (s ∷ ss) xs =
+    omega (arith, length-append (leaves e ps left code (take s xs)) (walked e ps left (suc code) ss (drop s xs)), leaves-few e ps left code (take s xs), walked-few e ps left (suc code) ss (drop s xs))
 
-tail-is : (parts : List ℕ) → take (length parts - 1) (drop 1 parts) ≡ drop 1 parts
-tail-is parts = take-all (length parts - 1) (drop 1 parts) (omega (arith, length-drop 1 parts))
+-- ---- a part of a list lent and given back
+pub part-long : (at s : ℕ) (xs : List ℕ) → at + s ≤ length xs → length (take (at + s - at) (drop at xs)) ≡ s
+part-long at s xs fits =
+    let size : at + s - at ≡ s = omega arith in
+    length-take-le (at + s - at) (drop at xs) (omega (arith, length-drop at xs)) ∙ size
 
-pub record Splittable (left code found : ℕ) (bytes parts xs : List ℕ) : Type 0 where
-  pub fits : getD parts 0 0 ≤ length xs
-  pub room : found + 64 ^ left ≤ 2 ^ 32
-  pub digits : (code + 1) * 64 ^ left ≤ 2 ^ 20
-  pub inside : AllIn (take (getD parts 0 0) xs) bytes
+module _ (at s : ℕ) (xs u : List ℕ) (fits : at + s ≤ length xs) (long : length u ≡ length (take (at + s - at) (drop at xs))) where
+  size : at + s - at ≡ s
+  size = omega arith
 
--- what walking the rest asks
-pub record Goes (left code : ℕ) (bytes parts xs tail rest : List ℕ) (found′ : ℕ) : Type 0 where
-  pub falls : length tail < length parts
-  pub room : found′ + length tail * 64 ^ left ≤ 2 ^ 32
-  pub digits : (code + 1 + length tail) * 64 ^ left ≤ 2 ^ 20
-  pub inside : AllIn rest bytes
-  pub whole : total tail ≡ length rest
-  pub shorter : length rest ≤ length xs
+  seam : length (take at xs ++ u) ≡ at + s
+  seam = length-append (take at xs) u ∙ omega (arith, length-take-le at xs (omega arith), long, part-long at s xs fits)
 
-module _ (left code found : ℕ) (bytes parts xs : List ℕ) (some : 1 ≤ length parts) (room : found + length parts * 64 ^ left ≤ 2 ^ 32)
-    (digits : (code + length parts) * 64 ^ left ≤ 2 ^ 20) (inside : AllIn xs bytes) (whole : total parts ≡ length xs) where
-  first-fits : (parts : List ℕ) → 1 ≤ length parts → getD parts 0 0 + total (drop 1 parts) ≡ total parts
-  first-fits [] l = absurd (omega arith)
-  first-fits (s ∷ parts) l = refl
+  pub put-front : take (at + s) (putMid at (at + s - at) xs u) ≡ take at xs ++ u
+  put-front = ap (take (at + s)) (sym (append-assoc (take at xs) u _)) ∙ take-at (take at xs ++ u) _ (at + s) seam
 
-  pub walk-splittable : Splittable left code found bytes parts xs
-  walk-splittable =
-      let fits : getD parts 0 0 ≤ length xs = omega (arith, first-fits parts some) in
-      let times = mul-le-mul-right (64 ^ left) some in
-      record {
-        fits = fits;
-        room = omega arith;
-        digits = omega arith;
-        inside = λ i l.
-            let n = length-take-le (getD parts 0 0) xs fits in
-            rw (getD-take (getD parts 0 0) xs i 0 (omega arith)) (inside i (omega arith));
-      }
+  pub put-rest : drop (at + s) (putMid at (at + s - at) xs u) ≡ drop s (drop at xs)
+  put-rest = ap (drop (at + s)) (sym (append-assoc (take at xs) u _)) ∙ drop-at (take at xs ++ u) _ (at + s) seam ∙ ap (λ (j : ℕ). drop j (drop at xs)) size
 
-  pub walk-goes : (e : Closeness) (u : List ℕ) (found′ : ℕ) → length u ≡ length (take (getD parts 0 0) xs)
-      → found′ ≡ found + length (leaves e (pixelsOf bytes) left code (take (getD parts 0 0) xs))
-      → Goes left code bytes parts xs (take (length parts - 1) (drop 1 parts)) (restOf (getD parts 0 0) xs u) found′
-  walk-goes e u found′ k q =
-      let fits : getD parts 0 0 ≤ length xs = walk-splittable .fits in
-      let tail = tail-is parts in
-      let rest = rest-is (getD parts 0 0) xs u fits k in
-      let less : length (drop 1 parts) ≡ length parts - 1 = length-drop 1 parts in
-      let split : length parts ≡ 1 + (length parts - 1) = omega arith in
-      let times : length parts * 64 ^ left ≡ 64 ^ left + (length parts - 1) * 64 ^ left = ap (λ (j : ℕ). j * 64 ^ left) split ∙ omega arith in
-      let same : code + 1 + (length parts - 1) ≡ code + length parts = omega arith in
-      rw (tail, rest) (record {
-        falls = omega arith;
-        room = rw less (omega (arith, leaves-few e (pixelsOf bytes) left code (take (getD parts 0 0) xs)));
-        digits = rw (less, same) digits;
-        inside = λ i l.
-            rw (getD-drop (getD parts 0 0) xs i 0) (inside (getD parts 0 0 + i) (omega (arith, length-drop (getD parts 0 0) xs)));
-        whole = omega (arith, first-fits parts some, length-drop (getD parts 0 0) xs);
-        shorter = omega (arith, length-drop (getD parts 0 0) xs);
-      })
+-- ---- the modes of a level, walked one by one
+-- the lists of a walk
+pub record Lists : Type 0 where
+  pub order : List ℕ
+  pub other : List ℕ
+  pub keys : List ℕ
+  pub codes : List ℕ
+  pub sizes : List ℕ
 
-pub walk-step : (e : Closeness) (ps : List Pixel) (left code found found′ found″ : ℕ) (parts xs ys codes sizes u v codes′ sizes′ w x codes″ sizes″ : List ℕ) → 1 ≤ length parts
-    → getD parts 0 0 ≤ length xs → length xs ≡ length ys → length u ≡ length (take (getD parts 0 0) xs) → length v ≡ length (take (getD parts 0 0) ys)
-    → length w ≡ length (restOf (getD parts 0 0) xs u) → length x ≡ length (restOf (getD parts 0 0) ys v)
-    → Split (leaves e ps left code (take (getD parts 0 0) xs)) found codes sizes codes′ sizes′ (resting left u v) found′
-    → Split (walked e ps left (code + 1) (take (length parts - 1) (drop 1 parts)) (restOf (getD parts 0 0) xs u)) found′ codes′ sizes′ codes″ sizes″ (resting left w x) found″
-    → Split (walked e ps left code parts xs) found codes sizes codes″ sizes″ (resting left (putRest (getD parts 0 0) xs u w) (putRest (getD parts 0 0) ys v x)) found″
-walk-step e ps left code found found′ found″ parts xs ys codes sizes u v codes′ sizes′ w x codes″ sizes″ some fits same a b c d s t =
-    let k = getD parts 0 0 in
-    let both : resting left (putRest k xs u w) (putRest k ys v x) ≡ resting left u v ++ resting left w x =
-    ap₂ (resting left) (put-is k xs u w fits a) (put-is k ys v x (omega arith) b) ∙ resting-both left u w v x in
-    rw (walked-more e ps left code parts xs some, both)
-    (split-both _ _ found found′ found″ codes codes′ codes″ sizes sizes′ sizes″ (resting left u v) (resting left w x) s (rw (tail-is parts, rest-is k xs u fits a) at t))
+-- after m modes, of a walk that began with other lists
+pub record Walks (e : Closeness) (bytes : List ℕ) (left code found : ℕ) (parts : List ℕ) (l₀ : Lists) (m at : ℕ) (l : Lists) (found′ : ℕ) : Type 0 where
+  pub within : m ≤ length parts
+  pub start : at ≡ total (take m parts)
+  pub orderLong : length (l .order) ≡ length (l₀ .order)
+  pub otherLong : length (l .other) ≡ length (l₀ .other)
+  pub keysLong : length (l .keys) ≡ length (l₀ .keys)
+  pub codesLong : length (l .codes) ≡ length (l₀ .codes)
+  pub sizesLong : length (l .sizes) ≡ length (l₀ .sizes)
+  pub ahead : drop at (l .order) ≡ drop at (l₀ .order)
+  pub walkedSo : Split (walked e (pixelsOf bytes) left code (take m parts) (take at (l₀ .order))) found (l₀ .codes) (l₀ .sizes) (l .codes) (l .sizes)
+      (resting left (take at (l .order)) (take at (l .other))) found′
+
+resting-none : (n : ℕ) → resting n [] [] ≡ []
+resting-none zero = refl
+resting-none (suc n) = resting-none n
+
+module _ (e : Closeness) (bytes : List ℕ) (left code found : ℕ) (parts : List ℕ) (l₀ : Lists) (whole : total parts ≡ length (l₀ .order)) (same : length (l₀ .order) ≡ length (l₀ .other)) where
+  pub walks-none : Walks e bytes left code found parts l₀ 0 0 l₀ found
+  unfolding walked
+  walks-none = record {
+    within = omega arith;
+    start = refl;
+    orderLong = refl;
+    otherLong = refl;
+    keysLong = refl;
+    codesLong = refl;
+    sizesLong = refl;
+    ahead = refl;
+    walkedSo = rw (resting-none left) (split-none found (l₀ .codes) (l₀ .sizes));
+  }
+
+  module _ (m at : ℕ) (l : Lists) (found′ : ℕ) (w : Walks e bytes left code found parts l₀ m at l found′) where
+    pub walks-all : length parts ≤ m → Split (walked e (pixelsOf bytes) left code parts (l₀ .order)) found (l₀ .codes) (l₀ .sizes) (l .codes) (l .sizes) (resting left (l .order) (l .other)) found′
+    walks-all end =
+        let all = take-all m parts end in
+        let over : at ≡ length (l₀ .order) = w .start ∙ ap total all ∙ whole in
+        rw (all, take-all at (l₀ .order) (omega arith), take-all at (l .order) (omega (arith, w .orderLong)), take-all at (l .other) (omega (arith, w .otherLong))) at (w .walkedSo)
+
+    module _ (more : m < length parts) where
+      next-start : at + getD parts m 0 ≡ total (take (m + 1) parts)
+      next-start = ap (λ (j : ℕ). j + getD parts m 0) (w .start) ∙ sym (total-more parts m more)
+
+      pub walks-fit : at + getD parts m 0 ≤ length (l₀ .order)
+      walks-fit = omega (arith, next-start, total-take-le (m + 1) parts)
+
+      pub walks-room : found + length parts * 64 ^ left ≤ 2 ^ 32 → found′ + 64 ^ left ≤ 2 ^ 32
+      walks-room room =
+          let some : m + 1 ≤ length parts = omega arith in
+          omega (
+            arith,
+            w .walkedSo .count,
+            walked-few e (pixelsOf bytes) left code (take m parts) (take at (l₀ .order)),
+            ap (λ (j : ℕ). j * 64 ^ left) (length-take-le m parts (omega arith)),
+            mul-le-mul-right (64 ^ left) some,
+          )
+
+      pub walks-digits : (code + length parts) * 64 ^ left ≤ 2 ^ 20 → (code + m + 1) * 64 ^ left ≤ 2 ^ 20
+      walks-digits digits =
+          let some : code + m + 1 ≤ code + length parts = omega arith in
+          omega (arith, mul-le-mul-right (64 ^ left) some)
+
+      pub walks-in : AllIn (l₀ .order) bytes → AllIn (take (at + getD parts m 0 - at) (drop at (l .order))) bytes
+      walks-in inside i k =
+          let z : at + getD parts m 0 - at ≡ getD parts m 0 = omega arith in
+          let long = length-take-le (at + getD parts m 0 - at) (drop at (l .order)) (omega (arith, walks-fit, w .orderLong, length-drop at (l .order))) in
+          rw (getD-take (at + getD parts m 0 - at) (drop at (l .order)) i 0 (omega arith), w .ahead, getD-drop at (l₀ .order) i 0) (inside (at + i) (omega (arith, walks-fit)))
+
+      -- the next mode split, in parts of the two lists
+      pub walks-more : (u v keys codes sizes : List ℕ) (found″ : ℕ) → length u ≡ length (take (at + getD parts m 0 - at) (drop at (l .order)))
+          → length v ≡ length (take (at + getD parts m 0 - at) (drop at (l .other))) → length keys ≡ length (l .keys) → length codes ≡ length (l .codes) → length sizes ≡ length (l .sizes)
+          → Split (leaves e (pixelsOf bytes) left (code + m) (take (at + getD parts m 0 - at) (drop at (l .order)))) found′ (l .codes) (l .sizes) codes sizes (resting left u v) found″
+          → Walks e bytes left code found parts l₀ (m + 1) (at + getD parts m 0)
+          (record { order = putMid at (at + getD parts m 0 - at) (l .order) u; other = putMid at (at + getD parts m 0 - at) (l .other) v; keys = keys; codes = codes; sizes = sizes }) found″
+      walks-more u v keys codes sizes found″ lu lv lk lc ls r =
+          let s = getD parts m 0 in
+          let xs = l₀ .order in
+          let fit : at + s ≤ length (l .order) = omega (arith, walks-fit, w .orderLong) in
+          let fit′ : at + s ≤ length (l .other) = omega (arith, walks-fit, w .otherLong, same) in
+          let z : at + s - at ≡ s = omega arith in
+          let more′ : take (m + 1) parts ≡ take m parts ++ (s ∷ []) = ap (λ (j : ℕ). take j parts) (add-one m) ∙ take-suc parts m 0 more in
+          let own : take (at + s - at) (drop at (l .order)) ≡ take s (drop at xs) = ap₂ (λ (j : ℕ) (ys : List ℕ). take j ys) z (w .ahead) in
+          let long : length (take s (drop at xs)) ≡ s = ap length (sym own) ∙ part-long at s (l .order) fit in
+          let many : length (take m parts) ≡ m = length-take-le m parts (omega arith) in
+          let leads : total (take m parts) ≡ length (take at xs) = sym (w .start) ∙ sym (length-take-le at xs (omega (arith, walks-fit))) in
+          let all : walked e (pixelsOf bytes) left code (take (m + 1) parts) (take (at + s) xs)
+          ≡ walked e (pixelsOf bytes) left code (take m parts) (take at xs) ++ leaves e (pixelsOf bytes) left (code + m) (take s (drop at xs)) =
+          ap₂ (walked e (pixelsOf bytes) left code) more′ (take-add at s xs) ∙ walked-last e (pixelsOf bytes) left code (take m parts) s (take at xs) (take s (drop at xs)) leads long
+          ∙ ap (λ (j : ℕ). walked e (pixelsOf bytes) left code (take m parts) (take at xs) ++ leaves e (pixelsOf bytes) left (code + j) (take s (drop at xs))) many in
+          let rests : resting left (take (at + s) (putMid at (at + s - at) (l .order) u)) (take (at + s) (putMid at (at + s - at) (l .other) v))
+          ≡ resting left (take at (l .order)) (take at (l .other)) ++ resting left u v =
+          ap₂ (resting left) (put-front at s (l .order) u fit lu) (put-front at s (l .other) v fit′ lv) ∙ resting-both left (take at (l .order)) u (take at (l .other)) v in
+          record {
+            within = omega arith;
+            start = next-start;
+            orderLong = same-len-mid at (at + s - at) (l .order) u lu ∙ w .orderLong;
+            otherLong = same-len-mid at (at + s - at) (l .other) v lv ∙ w .otherLong;
+            keysLong = lk ∙ w .keysLong;
+            codesLong = lc ∙ w .codesLong;
+            sizesLong = ls ∙ w .sizesLong;
+            ahead = put-rest at s (l .order) u fit lu ∙ ap (drop s) (w .ahead) ∙ drop-drop s at xs;
+            walkedSo = rw (all, rests) (split-both _ _ found found′ found″ (l₀ .codes) (l .codes) codes (l₀ .sizes) (l .sizes) sizes _ (resting left u v) (w .walkedSo) (rw own at r));
+          }
 
 -- ---- codes stay small
 pub code-times : (left code : ℕ) → 1 ≤ left → (code + 1) * 64 ^ left ≤ 2 ^ 20 → code * 64 < 2 ^ 20
@@ -204,5 +249,5 @@ code-times left code some h =
     let more : 64 ≤ 64 ^ left = omega (arith, room-more left some, room-some (left - 1)) in
     omega (arith, mul-le-mul-left (code + 1) more)
 
-pub code-next : (left code n : ℕ) → 1 ≤ n → (code + n) * 64 ^ left ≤ 2 ^ 20 → code + 1 ≤ 2 ^ 20
-code-next left code n some h = omega (arith, mul-le-mul-left (code + n) (room-some left))
+pub code-next : (left code n : ℕ) → (code + n) * 64 ^ left ≤ 2 ^ 20 → code + n ≤ 2 ^ 20
+code-next left code n h = omega (arith, mul-le-mul-left (code + n) (room-some left))
