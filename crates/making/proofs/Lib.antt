@@ -1,4 +1,4 @@
 mod Digits
 mod Gathered
 mod Made
-mod Divided
+pub mod Divided

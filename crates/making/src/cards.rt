@@ -14,7 +14,7 @@ ghost use Rattle.palette.specs.Sound.{mostPixels};
 ghost use Rattle.making.specs.Making.{RangesLaid, entriesMade, labelsMade, cardEntries, labelsLeft};
 
 // The entries and the labels of so many entries, where a card may hold them.
-fn finish(
+pub fn finish(
     pixels: &[u8],
     numbers: &[u16],
     codes: &[u32],
@@ -70,35 +70,7 @@ fn card_of(
 }
 
 // The entries and the labels, where a card may hold so many entries; else how many there are, with the labels as lent.
-// The caller lends the scratch, five bytes for each pixel, so that each call has no more of it than its largest image needs.
-pub fn card_in(
-    pixels: &[u8],
-    closeness: u32,
-    labels: &mut [u8],
-    order: &mut [u16],
-    other: &mut [u16],
-    keys: &mut [u8],
-) -> CardEntries
-    requires { ⌜ (length (now pixels) ≡ 3 * length (now labels)) × (length (now labels) ≤ mostPixels) × (closeness ≤ mostCloseness) ⌝ }
-    requires { ⌜ (length (now labels) ≤ length (now order)) × (length (now labels) ≤ length (now other)) × (length (now labels) ≤ length (now keys)) ⌝ }
-    ensures { λ r. ⌜ (r ≡ cardEntries closeness (pixelsOf (now (pixels .entry))))
-        × (now (labels .exit) ≡ labelsLeft closeness (pixelsOf (now (pixels .entry))) (now (labels .entry))) ⌝ }
-{
-    let mut codes = [0u32; MOST_ENTRIES];
-    let mut sizes = [0u32; MOST_ENTRIES];
-    card_of(
-        pixels,
-        closeness,
-        labels,
-        order,
-        other,
-        keys,
-        &mut codes,
-        &mut sizes,
-    )
-}
-
-// The same for as many pixels as a card may have.
+// All scratch is made here: five bytes for each pixel, and a place in two lists for each entry.
 pub fn make_card(pixels: &[u8], closeness: u32, labels: &mut [u8]) -> CardEntries
     requires { ⌜ (length (now pixels) ≡ 3 * length (now labels)) × (length (now labels) ≤ mostPixels) × (closeness ≤ mostCloseness) ⌝ }
     ensures { λ r. ⌜ (r ≡ cardEntries closeness (pixelsOf (now (pixels .entry))))
@@ -107,5 +79,16 @@ pub fn make_card(pixels: &[u8], closeness: u32, labels: &mut [u8]) -> CardEntrie
     let mut order = [0u16; MOST_PIXELS];
     let mut other = [0u16; MOST_PIXELS];
     let mut keys = [0u8; MOST_PIXELS];
-    card_in(pixels, closeness, labels, &mut order, &mut other, &mut keys)
+    let mut codes = [0u32; MOST_ENTRIES];
+    let mut sizes = [0u32; MOST_ENTRIES];
+    card_of(
+        pixels,
+        closeness,
+        labels,
+        &mut order,
+        &mut other,
+        &mut keys,
+        &mut codes,
+        &mut sizes,
+    )
 }

@@ -5,7 +5,7 @@ use palette::MOST_ENTRIES;
 mod cards;
 mod entries;
 
-pub use cards::card_in;
+pub use cards::finish;
 pub use cards::make_card;
 
 // How many entries a card has as defined, and the entries where a card may hold so many; the places past them are zero.
