@@ -5,9 +5,9 @@ use mathlib.Core.Bool.{Bool, true, false, cond, _&&_}
 use mathlib.Core.List.{List, [], _∷_, _++_, map, flatMap, map-map}
 use native.Mathlib.Omega.{arith}
 use lib.Dec.{eqb}
-use lib.ListN.{length, getD}
-use Rattle.lists.specs.Lists.{numbers, countIf, filter, firstIndex}
-use Rattle.lists.proofs.Each.{Each, each-all, each-from, each-number}
+use lib.ListN.{length}
+use Rattle.lists.specs.Lists.{numbers, countIf, filter}
+use Rattle.lists.proofs.Each.{each-all, each-number}
 use Rattle.lists.proofs.Filters.{numbers-length}
 use Rattle.lists.proofs.Places.{numbers-at}
 use Rattle.lists.proofs.Firsts.{passes-at-first}
@@ -17,13 +17,13 @@ use Rattle.lists.proofs.Writes.{table-is}
 use Rattle.pixel.specs.declared.Pixel.{Pixel}
 use Rattle.pixel.specs.Ranges.{Bytes}
 use Rattle.verdict.specs.Test.{Closeness}
-use Rattle.palette.specs.Levels.{Level, hue, saturation, intensity, binCount, binOf, histogram, modesAt, liesIn}
+use Rattle.palette.specs.Levels.{Level, hue, saturation, binCount, binOf, histogram, modesAt, liesIn}
 use Rattle.palette.specs.Cards.{Branch, members, histogramIn, modesFound, inChild, child, divide}
 use Rattle.palette.specs.Sound.{pixelAt}
 use Rattle.palette.proofs.LevelBins.{bin-below, bin-in-one-mode}
 use Rattle.palette.proofs.Partition.{histogram-in-length, child-has}
 use Rattle.dividing.specs.Sorted.{tally, marked}
-use Rattle.dividing.specs.Splitting.{levelAt, levelsLeft, Leaf, modeOf, binsOf, modesOf, marksOf, leaves, numbersOf, codeOf, leafOf}
+use Rattle.dividing.specs.Splitting.{levelAt, levelsLeft, modeOf, binsOf, modesOf, marksOf, leaves, numbersOf, codeOf, leafOf}
 
 -- ---- lists
 filter-map : {A B : Type 0} (f : A → B) (test : B → Bool) (xs : List A) → map f (filter (λ x. test (f x)) xs) ≡ filter test (map f xs)

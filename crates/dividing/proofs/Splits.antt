@@ -1,26 +1,25 @@
 -- What splitting and walking give, put together: the entries of one mode after those of the modes before it. Assumes nothing.
 use Prim.Native.Nat.{ℕ, zero, suc, _+_, _*_, _-_, _^_, _≤_, _<_}
 use mathlib.Core.Path.{_≡_, refl, sym, ap, ap₂, _∙_}
-use mathlib.Core.Bool.{Bool, cond}
 use mathlib.Core.List.{List, [], _∷_, _++_, map, flatMap, append-assoc, append-nil}
 use native.Mathlib.Omega.{arith}
-use native.Mathlib.Nat.{mul-le-mul-left, mul-le-mul-right}
+use native.Mathlib.Nat.{mul-le-mul-right}
 use native.Mathlib.Numerals.{unary-clauses}
 use lib.Dec.{eqb}
-use lib.ListN.{length, take, drop, getD, set, length-append, length-map, take-append-drop}
+use lib.ListN.{length, take, set, length-append, length-map}
 use lib.Seq.{sets, take-at, take-append-seam, drop-append-seam}
-use Rattle.lists.specs.Lists.{total, numbers, countIf}
+use Rattle.lists.specs.Lists.{numbers, countIf}
 use Rattle.lists.proofs.Cases.{by-cond}
 use Rattle.lists.proofs.Each.{Each, each-from, each-at, each-all, each-flat-map}
 use Rattle.lists.proofs.Filters.{numbers-length}
 use Rattle.lists.proofs.Flattened.{flat-map-append, flat-map-few, map-same}
 use Rattle.pixel.specs.declared.Pixel.{Pixel}
 use Rattle.verdict.specs.Test.{Closeness}
-use Rattle.palette.specs.Levels.{Level, binCount, modesAt}
-use Rattle.dividing.specs.Sorted.{AllBelow, tally, marked, sortedBy}
+use Rattle.palette.specs.Levels.{Level, binCount}
+use Rattle.dividing.specs.Sorted.{tally, marked, sortedBy}
 use Rattle.dividing.specs.Splitting.{AllIn, levelAt, Leaf, binsOf, modesOf, marksOf, leaves, walked, resting, Split}
 use Rattle.dividing.proofs.Tallies.{tally-length}
-use Rattle.dividing.proofs.Scattering.{marked-length, numbers-last}
+use Rattle.dividing.proofs.Scattering.{marked-length}
 use Rattle.dividing.proofs.Ranges.{bins-length}
 use Rattle.dividing.proofs.LevelSort.{modes-digit}
 

@@ -15,7 +15,7 @@ use Rattle.pixel.specs.declared.Pixel.{Pixel}
 use Rattle.verdict.specs.Test.{Closeness}
 use Rattle.palette.specs.Levels.{Level, binCount}
 use Rattle.palette.specs.Cards.{pixelsOf}
-use Rattle.dividing.specs.Sorted.{AllBelow, tally, sortedBy}
+use Rattle.dividing.specs.Sorted.{AllBelow, tally}
 use Rattle.dividing.specs.Splitting.{AllIn, levelAt, binsOf, modesOf, marksOf, modeOf, LevelSorted, leaves, walked, resting, Split}
 use Rattle.dividing.proofs.Tallies.{tally-length}
 use Rattle.dividing.proofs.Scattering.{start-all}

@@ -1,22 +1,21 @@
 -- Pixels that are divided make the card: its entries and its labels, and what making them relies on. Assumes nothing.
-use Prim.Native.Nat.{ℕ, zero, suc, _+_, _*_, _/_, _%_, _^_, _≤_, _<_}
+use Prim.Native.Nat.{ℕ, zero, suc, _+_, _*_, _/_, _%_, _≤_, _<_}
 use mathlib.Core.Path.{_≡_, refl, sym, ap, ap₂, _∙_}
 use mathlib.Core.Bool.{Bool, true, false, cond, _&&_}
-use mathlib.Core.List.{List, [], _∷_, _++_, map, flatMap, map-map}
+use mathlib.Core.List.{List, [], _∷_, map, flatMap, map-map}
 use native.Mathlib.Omega.{arith}
 use lib.Dec.{eqb, leb}
 use lib.ListN.{length, take, drop, getD, set, length-append, length-map, length-set}
 use lib.Seq.{sets, ext-getD, take-append-seam, drop-append-add, getD-take, take-take, getD-set-same, getD-set-other}
 use borrow.Author.Tests.{leb-true, eqb-true, eqb-false}
 use Rattle.lists.specs.Lists.{total, numbers, countIf, filter, firstIndex, padded}
-use Rattle.lists.proofs.Cases.{by-order}
 use Rattle.lists.proofs.Stores.{take-sets}
 use Rattle.lists.proofs.Each.{Each, each-from, each-at, each-all, each-so, each-flat-map}
 use Rattle.lists.proofs.Counting.{count-filter, count-same, number-counted}
 use Rattle.lists.proofs.Firsts.{first-below, passes-at-first}
 use Rattle.lists.proofs.Flattened.{flat-map-map}
 use Rattle.lists.proofs.Places.{map-at}
-use Rattle.lists.proofs.Writes.{table-is, table-length}
+use Rattle.lists.proofs.Writes.{table-is}
 use Rattle.pixel.specs.declared.Pixel.{Pixel}
 use Rattle.pixel.specs.Ranges.{Bytes}
 use Rattle.verdict.specs.Test.{Closeness}
@@ -30,7 +29,6 @@ use Rattle.dividing.specs.Kinds.{PixelsDivided}
 use Rattle.dividing.proofs.Bridge.{members-numbered}
 use Rattle.dividing.proofs.Halves.{numbers-in}
 use Rattle.making.specs.declared.CardEntries.{CardEntries}
-use Rattle.making.specs.declared.Sums.{Sums}
 use Rattle.making.specs.Making.{rangeOf, sumOf, sumsOf, labelled, meanBy, entryBy, entriesBy, labelsBy, RangesLaid, entriesMade, labelsMade, fits, cardEntries, labelsLeft}
 use Rattle.making.proofs.Digits.{Digits, code-below, branches-digits}
 use Rattle.making.proofs.Gathered.{labelled-length}

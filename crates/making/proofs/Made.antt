@@ -1,19 +1,18 @@
 -- The entries one after the other: the range of the next one, its figures and its labels. Assumes nothing.
-use Prim.Native.Nat.{ℕ, _+_, _*_, _-_, _^_, _≤_, _<_}
-use mathlib.Core.Path.{_≡_, refl, sym, ap, ap₂, _∙_}
-use mathlib.Core.List.{List, map}
+use Prim.Native.Nat.{ℕ, _+_, _-_, _≤_, _<_}
+use mathlib.Core.Path.{_≡_, sym, ap, ap₂, _∙_}
+use mathlib.Core.List.{List}
 use native.Mathlib.Omega.{arith}
 use native.Mathlib.Numerals.{add-one}
 use lib.ListN.{length, take, drop, getD, set, length-drop, length-set}
-use lib.Seq.{length-take-le, take-all, getD-take, getD-drop}
-use Rattle.lists.specs.Lists.{total, numbers, over}
+use lib.Seq.{length-take-le, getD-take, getD-drop}
+use Rattle.lists.specs.Lists.{total, over}
 use Rattle.lists.proofs.Parts.{total-take-mono}
 use Rattle.lists.proofs.Sums.{total-more}
 use Rattle.lists.proofs.Writes.{table-length, table-at, over-next}
 use Rattle.pixel.specs.declared.Pixel.{Pixel}
 use Rattle.palette.specs.declared.Entry.{Entry}
-use Rattle.palette.specs.Cards.{pixelsOf, noEntry, mostEntries}
-use Rattle.palette.specs.Sound.{mostPixels}
+use Rattle.palette.specs.Cards.{pixelsOf, noEntry}
 use Rattle.palette.proofs.Triples.{pixels-bytes}
 use Rattle.dividing.specs.Splitting.{AllIn}
 use Rattle.making.specs.declared.Sums.{Sums}
@@ -36,12 +35,6 @@ pub record Made (bytes xs codes sizes lent : List ℕ) (n : ℕ) (blank : List E
 -- one entry more
 module _ (bytes xs codes sizes lent : List ℕ) (n : ℕ) (r : RangesLaid bytes xs codes sizes lent n) (blank : List Entry) (k at : ℕ) (labels : List ℕ) (es : List Entry)
     (m : Made bytes xs codes sizes lent n blank k at labels es) (more : k < n) where
-  abbrev size : ℕ
-  size = getD sizes k 0
-
-  abbrev pub partAt : List ℕ
-  partAt = take (at + getD sizes k 0 - at) (drop at xs)
-
   next-start : at + getD sizes k 0 ≡ total (take (k + 1) sizes)
   next-start = ap (λ (j : ℕ). j + getD sizes k 0) (m .start) ∙ sym (total-more sizes k (omega (arith, r .sized)))
 

@@ -1,14 +1,14 @@
 -- `divide_pixels` meets its contract. Assumes nothing.
-use Prim.Native.Nat.{ℕ, _+_, _*_, _-_, _≤_, _<_}
-use mathlib.Core.Path.{_≡_, refl, sym, ap, _∙_}
+use Prim.Native.Nat.{ℕ, _+_, _-_}
+use mathlib.Core.Path.{_≡_, sym, _∙_}
 use mathlib.Core.List.{List, _++_}
 use native.Mathlib.Omega.{arith}
 use borrow.Author.Needs.{needs}
-use lib.ListN.{length, take, drop, getD}
+use lib.ListN.{length, take, drop}
 use lib.Seq.{length-take-le}
 use Rattle.palette.specs.Cards.{pixelsOf}
 use Rattle.palette.specs.Sound.{mostPixels}
-use Rattle.dividing.proofs.Walking.{sliceFrom, putFrom}
+use Rattle.dividing.proofs.Walking.{putFrom}
 use Rattle.dividing.proofs.Halves.{KindsLaid, kinds-laid, greys-long, greys-room, order-long, other-long, colours-lent, colours-long, colours-room}
 use Rattle.dividing.proofs.Halves.{other-end, order-end, source-long, both-long, both-divided, some-few}
 use Rattle.dividing.proofs.divide.divide_pixels.Statement.{statement}

@@ -1,17 +1,12 @@
 -- `split_some` meets its contract. Assumes nothing.
 use Rattle.dividing.proofs.KindLaws.{some-none, some-some}
-use Prim.Native.Nat.{ℕ, _+_, _*_, _-_, _≤_, _<_}
-use mathlib.Core.Path.{_≡_, refl, sym, ap, _∙_}
-use mathlib.Core.List.{List}
+use Prim.Native.Nat.{_-_}
+use mathlib.Core.Path.{_≡_, refl, sym}
 use native.Mathlib.Omega.{arith}
 use borrow.Author.Needs.{needs}
-use lib.ListN.{length, take, drop, getD, set, length-set}
-use borrow.Author.Needs.{needs}
+use lib.ListN.{length}
 use Rattle.dividing.proofs.divide.split_some.Statement.{statement}
 use Rattle.dividing.proofs.divide.split_some.Tie as tie
-use Rattle.dividing.proofs.divide.split_some.Reads as reads
-use Rattle.dividing.proofs.divide.split_some.Lts as lts
-use Rattle.dividing.proofs.levels.split.Reads as split-reads
 
 returns : tie.Need-returns
 returns c =

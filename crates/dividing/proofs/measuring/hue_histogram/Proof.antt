@@ -1,9 +1,9 @@
 -- `hue_histogram` meets its contract. The loop's invariant: the bins of the pixels passed are kept and counted. Assumes nothing.
-use Prim.Native.Nat.{ℕ, _+_, _-_, _≤_, _<_}
+use Prim.Native.Nat.{ℕ, _-_, _≤_, _<_}
 use native.Mathlib.Omega.{arith}
 use borrow.Author.Needs.{needs}
 use mathlib.Core.Path.{_≡_}
-use lib.ListN.{length, getD, set}
+use lib.ListN.{length, getD}
 use Rattle.pixel.specs.Colour.{hueBin}
 use Rattle.palette.specs.Levels.{hue}
 use Rattle.palette.specs.Cards.{pixelsOf}

@@ -1,8 +1,8 @@
 -- `saturation_histogram` meets its contract. The loop's invariant: the bins of the pixels passed are kept and counted. Assumes nothing.
-use Prim.Native.Nat.{ℕ, _+_, _-_, _≤_, _<_}
+use Prim.Native.Nat.{ℕ, _-_, _≤_, _<_}
 use native.Mathlib.Omega.{arith}
 use borrow.Author.Needs.{needs}
-use lib.ListN.{length, getD, set}
+use lib.ListN.{length, getD}
 use Rattle.palette.specs.Levels.{saturation}
 use Rattle.palette.specs.Sound.{mostPixels}
 use Rattle.dividing.proofs.Measured.{Passed, passed-none, passed-below, passed-few, passed-more, passed-all}

@@ -1,15 +1,15 @@
 -- `card_of` meets its contract. Assumes nothing.
-use Prim.Native.Nat.{ℕ, _*_, _≤_, _<_}
+use Prim.Native.Nat.{ℕ, _*_}
 use mathlib.Core.Path.{_≡_, refl, sym, ap, _∙_}
 use mathlib.Core.List.{List, _++_}
 use native.Mathlib.Omega.{arith}
-use lib.ListN.{length, take, drop, getD}
+use lib.ListN.{length, take, drop}
 use lib.Seq.{length-take-le, take-at}
 use Rattle.pixel.specs.Ranges.{Bytes}
-use Rattle.palette.specs.Cards.{pixelsOf, mostEntries}
+use Rattle.palette.specs.Cards.{pixelsOf}
 use Rattle.palette.specs.Sound.{pixelAt}
 use Rattle.palette.proofs.Triples.{pixels-length, pixels-bytes}
-use Rattle.making.specs.Making.{RangesLaid, entriesMade, labelsMade}
+use Rattle.making.specs.Making.{entriesMade, labelsMade}
 use Rattle.making.proofs.Divided.{divided-few, divided-laid, card-made, labels-made}
 use borrow.Author.Needs.{needs}
 use Rattle.making.proofs.cards.card_of.Statement.{statement}

@@ -1,10 +1,10 @@
 -- `entries_of` meets its contract. The loop's invariant: the entries passed stand in the first places, and their pixels have their labels. Assumes nothing.
-use Prim.Native.Nat.{ℕ, _+_, _*_, _-_, _≤_, _<_}
+use Prim.Native.Nat.{ℕ, _+_, _*_, _-_, _≤_}
 use mathlib.Core.Path.{_≡_, refl, sym, ap, _∙_}
 use mathlib.Core.List.{List}
 use native.Mathlib.Omega.{arith}
 use borrow.Author.Needs.{needs}
-use lib.ListN.{length, getD, replicate, length-replicate}
+use lib.ListN.{length, getD, replicate}
 use lib.Seq.{take-all}
 use Rattle.lists.specs.Lists.{over}
 use Rattle.lists.proofs.Buffers.{over-none, over-padded}
@@ -12,7 +12,6 @@ use Rattle.palette.specs.declared.Entry.{Entry}
 use Rattle.palette.specs.Cards.{pixelsOf, mostEntries, noEntry}
 use Rattle.palette.specs.Sound.{mostPixels}
 use Rattle.making.specs.Making.{entriesBy, labelsBy}
-use Rattle.making.proofs.Gathered.{SumsFew}
 use Rattle.making.proofs.Made.{Made, entries-long, next-within, part-long, part-in, part-few, made-more}
 use Rattle.making.proofs.entries.entries_of.Statement.{statement}
 use Rattle.making.proofs.entries.entries_of.Tie as tie

@@ -1,8 +1,8 @@
 -- `gather` meets its contract. The loop's invariant: the pixels passed are added up and have their label. Assumes nothing.
-use Prim.Native.Nat.{ℕ, _-_, _<_}
+use Prim.Native.Nat.{_-_}
 use native.Mathlib.Omega.{arith}
 use borrow.Author.Needs.{needs}
-use lib.ListN.{length, getD}
+use lib.ListN.{length}
 use Rattle.palette.specs.Cards.{pixelsOf}
 use Rattle.palette.proofs.Triples.{pixels-bytes}
 use Rattle.making.proofs.Gathered.{SumsFew, Gathered, gathered-none, gathered-room, gathered-more, gathered-all}
