@@ -23,7 +23,6 @@ pub fn pixel_at(pixels: &[u8], i: usize) -> Pixel
     }
 }
 
-// Only colours have a hue, and only colours come here: so no pixel is tested for grey again.
 pub fn hue_histogram(pixels: &[u8], order: &[u16], keys: &mut [u8]) -> [u32; 60]
     requires { ⌜ (length (now order) ≡ length (now keys)) × (length (now keys) ≤ mostPixels) × AllIn (now order) (now pixels) × AllColours (now order) (now pixels) ⌝ }
     ensures { λ r. ⌜ BinsCounted (pixelsOf (now (pixels .entry))) hue (now (order .entry)) (now (keys .exit)) r ⌝ }
@@ -31,7 +30,8 @@ pub fn hue_histogram(pixels: &[u8], order: &[u16], keys: &mut [u8]) -> [u32; 60]
     let mut h = [0u32; 60];
     let mut i = 0;
     while i < order.len() {
-        let bin = hue_of(pixel_at(pixels, order[i] as usize));
+        let p = pixel_at(pixels, order[i] as usize);
+        let bin = hue_of(p.red, p.green, p.blue);
         keys[i] = bin;
         let k = bin as usize;
         h[k] = h[k] + 1;

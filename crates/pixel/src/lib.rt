@@ -229,11 +229,11 @@ fn turned_back(p: Pixel) -> Turned
     }
 }
 
-// The hue bin of a coloured pixel.
-pub fn hue_of(p: Pixel) -> u8
-    ensures { λ r. ⌜ r ≡ hueOf (huePoint p) ⌝ }
+// The hue bin of a coloured pixel. Its channels come singly, since a struct would go through memory at every call.
+pub fn hue_of(red: u8, green: u8, blue: u8) -> u8
+    ensures { λ r. ⌜ r ≡ hueOf (huePoint (record { red = red; green = green; blue = blue })) ⌝ }
 {
-    let t = turned_back(p);
+    let t = turned_back(Pixel { red, green, blue });
     (15 * t.quarter + tangents_passed(t.a, t.b)) as u8
 }
 
@@ -241,7 +241,11 @@ pub fn hue_of(p: Pixel) -> u8
 pub fn hue_bin(p: Pixel) -> u8
     ensures { λ r. ⌜ r ≡ hueBin p ⌝ }
 {
-    if is_grey(p) { 0 } else { hue_of(p) }
+    if is_grey(p) {
+        0
+    } else {
+        hue_of(p.red, p.green, p.blue)
+    }
 }
 
 // All measures of one pixel.
