@@ -1,14 +1,13 @@
-mod Turns
-pub mod Numbered
-pub mod NodeLaws
+pub mod Scattering
 pub mod Tallies
-pub mod Entering
-pub mod Steps
-pub mod Rows
-pub mod Codes
-pub mod OneLevel
-pub mod AllNodes
-pub mod Ahead
-pub mod Onward
-pub mod FirstStage
-pub mod Descent
+pub mod Numbered
+pub mod Turns
+pub mod Gathering
+pub mod Ranges
+pub mod Measured
+pub mod LevelSort
+pub mod Splits
+pub mod Walking
+pub mod Bridge
+pub mod KindLaws
+pub mod Halves

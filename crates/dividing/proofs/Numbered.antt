@@ -22,7 +22,7 @@ use Rattle.segmentation.proofs.Finishing.{modes-cut, separators-length, separat
 use Rattle.segmentation.proofs.OneMode.{one-mode, in-mode, in-last-mode}
 use Rattle.segmentation.proofs.RingPlaces.{ring-length, place-in, place-bin}
 use Rattle.palette.specs.Levels.{hue, intensity}
-use Rattle.dividing.specs.Nodes.{modeOf}
+use Rattle.dividing.specs.Splitting.{modeOf}
 use Rattle.dividing.specs.Numbering.{RisesFromZero, Begun, PlacesNumbered, BinsNumbered}
 
 -- the one of the numbers below n that passes is the first that does
@@ -73,32 +73,32 @@ module _ (e : Closeness) (h : List ℕ) (two : 2 ≤ length h) (buffer : List �
       let ss = lineModes e h in
       first-of-one (length ss) (λ k. inMode ss k i) (one-mode (length h) ss (modes-cut e h two) i l) m (b .mode) (begun-in m i b l)
 
-  pub line-numbered : (first : ℕ) (next : List ℕ) → length next ≡ length h
-      → PlacesNumbered (over (lineSeparators e h) buffer) (length (lineModes e h)) 0 first next
-      → BinsNumbered e intensity h first next (length (lineModes e h))
+  pub line-numbered : (next : List ℕ) → length next ≡ length h
+      → PlacesNumbered (over (lineSeparators e h) buffer) (length (lineModes e h)) 0 next
+      → BinsNumbered e intensity h next (length (lineModes e h))
   unfolding held modeOf
-  line-numbered first next same p = record {
-    modes = refl;
+  line-numbered next same p = record {
+    found = refl;
     numbered = λ b l.
         let r = p b (omega arith) in
         let z : (0 + b) % length next ≡ b = mod-below (0 + b) (length next) (omega arith) ∙ omega arith in
-        ap (λ (k : ℕ). getD next k 0) (sym z) ∙ r .2 ∙ ap (λ (k : ℕ). first + k) (sym (begun-mode (r .0) b (r .1) l));
+        ap (λ (k : ℕ). getD next k 0) (sym z) ∙ r .2 ∙ sym (begun-mode (r .0) b (r .1) l);
   }
 
 -- ---- a ring
-pub ring-numbered : (e : Closeness) (h : List ℕ) → 2 ≤ length h → (buffer : List ℕ) (first : ℕ) (next : List ℕ) → length next ≡ length h
-    → PlacesNumbered (over (lineSeparators e (opened h)) buffer) (length (ringModes e h)) (opening h) first next
-    → BinsNumbered e hue h first next (length (ringModes e h))
+pub ring-numbered : (e : Closeness) (h : List ℕ) → 2 ≤ length h → (buffer : List ℕ) (next : List ℕ) → length next ≡ length h
+    → PlacesNumbered (over (lineSeparators e (opened h)) buffer) (length (ringModes e h)) (opening h) next
+    → BinsNumbered e hue h next (length (ringModes e h))
 unfolding held modeOf ringModes inRingMode ringBin
-ring-numbered e h two buffer first next same p =
+ring-numbered e h two buffer next same p =
     let long = ring-length h (omega arith) in
     record {
-      modes = refl;
+      found = refl;
       numbered = λ b l.
           let i = linePlace h b in
           let inside : i < length h = place-in h (omega arith) b in
           let r = p i (omega arith) in
           let z : (opening h + i) % length next ≡ b = rw same (place-bin h (omega arith) b l) in
           ap (λ (k : ℕ). getD next k 0) (sym z) ∙ r .2
-          ∙ ap (λ (k : ℕ). first + k) (sym (begun-mode e (opened h) (omega arith) buffer (r .0) i (r .1) (omega arith)));
+          ∙ sym (begun-mode e (opened h) (omega arith) buffer (r .0) i (r .1) (omega arith));
     }

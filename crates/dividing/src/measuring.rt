@@ -1,13 +1,15 @@
-// The measures of every pixel, taken once and kept.
+// The bins of a range of pixels at one level, each kept and counted in the same pass.
 use pixel::Pixel;
-use pixel::measure;
+use pixel::hue_of;
+use pixel::intensity_bin;
+use pixel::saturation_bin;
 ghost use mathlib.Core.Path.{_≡_};
-ghost use mathlib.Core.Bool.{cond};
-ghost use Prim.Native.Nat.{_*_, _+_, _<_};
+ghost use Prim.Native.Nat.{_*_, _+_, _<_, _≤_};
 ghost use lib.ListN.{length};
+ghost use Rattle.palette.specs.Levels.{hue, saturation, intensity};
 ghost use Rattle.palette.specs.Cards.{pixelsOf};
-ghost use Rattle.palette.specs.Sound.{pixelAt};
-ghost use Rattle.dividing.specs.Dividing.{MeasuresKept};
+ghost use Rattle.palette.specs.Sound.{pixelAt, mostPixels};
+ghost use Rattle.dividing.specs.Splitting.{AllIn, AllColours, BinsCounted};
 
 pub fn pixel_at(pixels: &[u8], i: usize) -> Pixel
     requires { ⌜ 3 * i + 2 < length (now pixels) ⌝ }
@@ -21,29 +23,51 @@ pub fn pixel_at(pixels: &[u8], i: usize) -> Pixel
     }
 }
 
-// The first cell of a pixel: its kind and its hue.
-fn first_cell(grey: bool, hue: u8) -> u16
-    requires { ⌜ hue < 60 ⌝ }
-    ensures { λ r. ⌜ r ≡ cond grey 0 60 + hue ⌝ }
+pub fn hue_histogram(pixels: &[u8], order: &[u16], keys: &mut [u8]) -> [u32; 60]
+    requires { ⌜ (length (now order) ≡ length (now keys)) × (length (now keys) ≤ mostPixels) × AllIn (now order) (now pixels) × AllColours (now order) (now pixels) ⌝ }
+    ensures { λ r. ⌜ BinsCounted (pixelsOf (now (pixels .entry))) hue (now (order .entry)) (now (keys .exit)) r ⌝ }
 {
-    if grey { hue as u16 } else { 60 + hue as u16 }
-}
-
-pub fn keep_measures(
-    pixels: &[u8],
-    cells: &mut [u16],
-    saturations: &mut [u8],
-    intensities: &mut [u8],
-)
-    requires { ⌜ (length (now pixels) ≡ 3 * length (now cells)) × (length (now saturations) ≡ length (now cells)) × (length (now intensities) ≡ length (now cells)) ⌝ }
-    ensures { λ _. ⌜ MeasuresKept (pixelsOf (now (pixels .entry))) (now (cells .exit)) (now (saturations .exit)) (now (intensities .exit)) ⌝ }
-{
+    let mut h = [0u32; 60];
     let mut i = 0;
-    while i < cells.len() {
-        let m = measure(pixel_at(pixels, i));
-        cells[i] = first_cell(m.grey, m.hue);
-        saturations[i] = m.saturation;
-        intensities[i] = m.intensity;
+    while i < order.len() {
+        let p = pixel_at(pixels, order[i] as usize);
+        let bin = hue_of(p.red, p.green, p.blue);
+        keys[i] = bin;
+        let k = bin as usize;
+        h[k] = h[k] + 1;
         i += 1;
     }
+    h
+}
+
+pub fn saturation_histogram(pixels: &[u8], order: &[u16], keys: &mut [u8]) -> [u32; 42]
+    requires { ⌜ (length (now order) ≡ length (now keys)) × (length (now keys) ≤ mostPixels) × AllIn (now order) (now pixels) ⌝ }
+    ensures { λ r. ⌜ BinsCounted (pixelsOf (now (pixels .entry))) saturation (now (order .entry)) (now (keys .exit)) r ⌝ }
+{
+    let mut h = [0u32; 42];
+    let mut i = 0;
+    while i < order.len() {
+        let bin = saturation_bin(pixel_at(pixels, order[i] as usize));
+        keys[i] = bin;
+        let k = bin as usize;
+        h[k] = h[k] + 1;
+        i += 1;
+    }
+    h
+}
+
+pub fn intensity_histogram(pixels: &[u8], order: &[u16], keys: &mut [u8]) -> [u32; 52]
+    requires { ⌜ (length (now order) ≡ length (now keys)) × (length (now keys) ≤ mostPixels) × AllIn (now order) (now pixels) ⌝ }
+    ensures { λ r. ⌜ BinsCounted (pixelsOf (now (pixels .entry))) intensity (now (order .entry)) (now (keys .exit)) r ⌝ }
+{
+    let mut h = [0u32; 52];
+    let mut i = 0;
+    while i < order.len() {
+        let bin = intensity_bin(pixel_at(pixels, order[i] as usize));
+        keys[i] = bin;
+        let k = bin as usize;
+        h[k] = h[k] + 1;
+        i += 1;
+    }
+    h
 }

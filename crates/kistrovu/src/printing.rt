@@ -1,4 +1,5 @@
 // The text of a swatch read, and the text of its card printed.
+use crate::swatch_cards;
 use palette::MOST_ENTRIES;
 use swatch::MOST_SWATCH_PIXELS;
 ghost use mathlib.Core.Path.{_≡_};
@@ -20,7 +21,7 @@ fn print_pixels(pixels: &[u8], labels: &mut [u8], out: &mut [u8]) -> Outcome
     ensures { λ r. ⌜ PixelsPrinted (now (pixels .entry)) (now (out .entry)) (now (out .exit)) r ⌝ }
 {
     let n = labels.len();
-    let made = making::make_card(pixels, 0, labels);
+    let made = swatch_cards::make_card(pixels, 0, labels);
     let entries = made.entries;
     if MOST_ENTRIES < made.total as usize {
         return Outcome { number: 11, len: 0 };

@@ -1,4 +1,4 @@
-mod Totals
-mod Figures
-mod EntriesMade
-mod Completed
+mod Digits
+mod Gathered
+mod Made
+pub mod Divided

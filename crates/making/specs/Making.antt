@@ -1,69 +1,80 @@
--- How the code makes entries from the labels and the codes. No public promise cites it. Assumes nothing.
-use Prim.Native.Nat.{ℕ, zero, suc, _+_, _*_, _/_, _%_, _<_}
+-- How the code makes entries and labels from the numbers of the pixels, entry by entry. No public promise cites it. Assumes nothing.
+use Prim.Native.Nat.{ℕ, zero, suc, _+_, _*_, _/_, _%_, _^_, _≤_, _<_}
 use mathlib.Core.Path.{_≡_}
 use mathlib.Core.Bool.{Bool, cond}
 use mathlib.Core.List.{List, [], _∷_, map}
-use lib.Dec.{eqb, leb}
-use lib.ListN.{length, getD}
-use Rattle.lists.specs.Lists.{numbers, countIf, padded}
+use lib.Dec.{leb}
+use lib.ListN.{length, take, drop, getD, set}
+use Rattle.lists.specs.Lists.{total, numbers, padded}
 use Rattle.pixel.specs.declared.Pixel.{Pixel}
 use Rattle.verdict.specs.Test.{Closeness}
 use Rattle.palette.specs.declared.Entry.{Entry}
-use Rattle.making.specs.declared.CardEntries.{CardEntries}
 use Rattle.palette.specs.Cards.{entries, labels, mostEntries, noEntry}
+use Rattle.palette.specs.Sound.{pixelAt, mostPixels}
+use Rattle.dividing.specs.Splitting.{AllIn}
+use Rattle.making.specs.declared.CardEntries.{CardEntries}
+use Rattle.making.specs.declared.Sums.{Sums}
 
-abbrev pub channel : ℕ → Pixel → ℕ
-channel zero p = p .red
-channel (suc zero) p = p .green
-channel (suc (suc c)) p = p .blue
+-- the numbers of entry k: so many, from where those of the entries before it end
+abbrev pub rangeOf : List ℕ → List ℕ → ℕ → List ℕ
+rangeOf sizes xs k = take (getD sizes k 0) (drop (total (take k sizes)) xs)
 
--- the total of a figure over the pixels that bear label k
-unfoldable pub totalUnder : (Pixel → ℕ) → ℕ → List ℕ → List Pixel → ℕ
-totalUnder f k [] ps = 0
-totalUnder f k (x ∷ xs) [] = 0
-totalUnder f k (x ∷ xs) (p ∷ ps) = cond (eqb k x) (f p) 0 + totalUnder f k xs ps
+-- the sum of one figure of the pixels that are given by their numbers, and of all three channels
+unfoldable pub sumOf : (Pixel → ℕ) → List Pixel → List ℕ → ℕ
+sumOf f ps xs = total (map (λ i. f (pixelAt ps i)) xs)
 
-unfoldable pub channelTotals : ℕ → ℕ → List ℕ → List Pixel → List ℕ
-channelTotals n c xs ps = map (λ k. totalUnder (channel c) k xs ps) (numbers 0 n)
+abbrev pub sumsOf : List Pixel → List ℕ → Sums
+sumsOf ps xs = record { red = sumOf (λ p. p .red) ps xs; green = sumOf (λ p. p .green) ps xs; blue = sumOf (λ p. p .blue) ps xs }
 
--- the totals of all three, of so many labels
-pub record ChannelsAdded (n : ℕ) (xs : List ℕ) (ps : List Pixel) (reds greens blues : List ℕ) : Type 0 where
-  pub red : reds ≡ channelTotals n 0 xs ps
-  pub green : greens ≡ channelTotals n 1 xs ps
-  pub blue : blues ≡ channelTotals n 2 xs ps
+-- each of the places xs gets the label k
+unfoldable pub labelled : ℕ → List ℕ → List ℕ → List ℕ
+labelled k [] lent = lent
+labelled k (x ∷ xs) lent = labelled k xs (set lent x k)
 
--- a mean, 'halves up'
+-- a mean, halves up
 unfoldable pub meanBy : ℕ → ℕ → ℕ
 meanBy total count = (2 * total + count) / (2 * count)
 
 -- an entry from its code and its figures
-unfoldable pub entryBy : (code count red green blue : ℕ) → Entry
-entryBy code count red green blue = record {
+unfoldable pub entryBy : ℕ → ℕ → Sums → Entry
+entryBy code count sums = record {
   kind = code / 262144;
   hue = code / 4096 % 64;
   saturation = code / 64 % 64;
   intensity = code % 64;
-  red = meanBy red count;
-  green = meanBy green count;
-  blue = meanBy blue count;
+  red = meanBy (sums .red) count;
+  green = meanBy (sums .green) count;
+  blue = meanBy (sums .blue) count;
   count = count;
 }
 
--- the entries of n codes, from the labels
-unfoldable pub entriesBy : ℕ → List ℕ → List ℕ → List Pixel → List Entry
-entriesBy n codes xs ps =
-    map (λ k. entryBy (getD codes k 0) (countIf (eqb k) xs) (totalUnder (channel 0) k xs ps) (totalUnder (channel 1) k xs ps) (totalUnder (channel 2) k xs ps)) (numbers 0 n)
+-- the first n entries, and the labels that they give
+unfoldable pub entriesBy : (n : ℕ) (codes sizes xs : List ℕ) → List Pixel → List Entry
+entriesBy n codes sizes xs ps = map (λ k. entryBy (getD codes k 0) (getD sizes k 0) (sumsOf ps (rangeOf sizes xs k))) (numbers 0 n)
 
--- each label below n is borne by some pixel
-abbrev pub AllBorne : ℕ → List ℕ → Type 0
-AllBorne n xs = (k : ℕ) → k < n → 0 < countIf (eqb k) xs
+unfoldable pub labelsBy : (sizes xs : List ℕ) → ℕ → List ℕ → List ℕ
+labelsBy sizes xs zero lent = lent
+labelsBy sizes xs (suc k) lent = labelled k (rangeOf sizes xs k) (labelsBy sizes xs k lent)
 
--- the entries of n codes where a card may hold so many, and the labels as they are left
-unfoldable pub entriesMade : ℕ → List ℕ → List ℕ → List Pixel → CardEntries
-entriesMade n codes xs ps = record { total = n; entries = padded mostEntries noEntry (cond (leb n mostEntries) (entriesBy n codes xs ps) []) }
+-- what making n entries relies on
+pub record RangesLaid (bytes xs codes sizes labels : List ℕ) (n : ℕ) : Type 0 where
+  pub pixels : length bytes ≡ 3 * length labels
+  pub many : length labels ≤ mostPixels
+  pub numbered : length xs ≡ length labels
+  pub inside : AllIn xs bytes
+  pub few : n ≤ mostEntries
+  pub coded : n ≤ length codes
+  pub sized : n ≤ length sizes
+  pub small : (k : ℕ) → k < n → getD codes k 0 < 2 ^ 19
+  pub filled : (k : ℕ) → k < n → 0 < getD sizes k 0
+  pub whole : total (take n sizes) ≤ length xs
 
-unfoldable pub labelsMade : ℕ → List ℕ → List ℕ → List ℕ
-labelsMade n xs lent = cond (leb n mostEntries) xs lent
+-- the entries where a card may hold so many, and the labels as they are left
+unfoldable pub entriesMade : (n : ℕ) (codes sizes xs : List ℕ) → List Pixel → CardEntries
+entriesMade n codes sizes xs ps = record { total = n; entries = padded mostEntries noEntry (cond (leb n mostEntries) (entriesBy n codes sizes xs ps) []) }
+
+unfoldable pub labelsMade : (n : ℕ) (sizes xs : List ℕ) → List ℕ → List ℕ
+labelsMade n sizes xs lent = cond (leb n mostEntries) (labelsBy sizes xs n lent) lent
 
 -- whether a card may hold all entries
 abbrev pub fits : Closeness → List Pixel → Bool

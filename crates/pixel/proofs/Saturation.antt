@@ -29,10 +29,3 @@ saturation-near q j s h =
     by-cond (λ (m : ℕ). m ≡ saturationOf q) (leb ((j + 1) * (j + 1)) (2 * q / 75)) (j + 1) j
     (λ e. sym (saturation-is q (j + 1) s (omega (arith, leb-true ((j + 1) * (j + 1)) (2 * q / 75) e)) (omega arith)))
     (λ e. sym (saturation-is q j s (omega arith) (omega (arith, leb-false ((j + 1) * (j + 1)) (2 * q / 75) e))))
-
--- of a grey
-pub saturation-grey : (q : ℕ) → q ≤ 136 → cond (leb 38 q) 1 0 ≡ saturationOf q
-saturation-grey q h =
-    by-cond (λ (m : ℕ). m ≡ saturationOf q) (leb 38 q) 1 0
-    (λ e. sym (saturation-is q 1 (omega arith) (omega (arith, leb-true 38 q e)) (omega arith)))
-    (λ e. sym (saturation-is q 0 (omega arith) (omega arith) (omega (arith, leb-false 38 q e))))

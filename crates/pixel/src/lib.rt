@@ -8,12 +8,15 @@ ghost use Rattle.pixel.specs.Root.{RootWithin, lineOf};
 ghost use Rattle.pixel.specs.Colour.{
   intensityBin,
   chromaSquared,
+  isGrey,
   saturationOf,
+  saturationBin,
   tangents,
   tangentsPassed,
   huePoint,
   turnedOf,
   hueOf,
+  hueBin,
   measuresOf,
 };
 
@@ -50,7 +53,7 @@ struct Inner {
     second: u32,
 }
 
-fn intensity_bin(p: Pixel) -> u8
+pub fn intensity_bin(p: Pixel) -> u8
     ensures { λ r. ⌜ r ≡ intensityBin p ⌝ }
 {
     ((p.red as u32 + p.green as u32 + p.blue as u32) / 15) as u8
@@ -88,6 +91,12 @@ fn chroma_squared(p: Pixel) -> u32
     (y * y + 3 * (x * x)) / 4
 }
 
+pub fn is_grey(p: Pixel) -> bool
+    ensures { λ r. ⌜ r ≡ isGrey p ⌝ }
+{
+    chroma_squared(p) <= 136
+}
+
 // The line for 0 to 39, 40 to 199, 200 to 699, and 700 on. A match compiles to a read-only table; a constant array would be copied to the stack at each use.
 fn line_of(stretch: u32) -> Line
     requires { ⌜ stretch ≤ 3 ⌝ }
@@ -123,7 +132,7 @@ fn near_root(x: u32) -> u32
 }
 
 // The largest j with 75j² ≤ 2Q, computed as the square root of 2Q/75, rounded down.
-fn saturation_bin(q: u32) -> u8
+fn saturation_of(q: u32) -> u8
     requires { ⌜ q ≤ 65025 ⌝ }
     ensures { λ r. ⌜ r ≡ saturationOf q ⌝ }
 {
@@ -131,6 +140,12 @@ fn saturation_bin(q: u32) -> u8
     let near = near_root(x);
     let next = near + 1;
     chosen(next * next <= x, next, near) as u8
+}
+
+pub fn saturation_bin(p: Pixel) -> u8
+    ensures { λ r. ⌜ r ≡ saturationBin p ⌝ }
+{
+    saturation_of(chroma_squared(p))
 }
 
 // 1 if the slope b/a reaches tangent t, else 0. `bound` is 1000000·b.
@@ -215,32 +230,33 @@ fn turned_back(p: Pixel) -> Turned
     }
 }
 
-fn hue_of(p: Pixel) -> u8
-    ensures { λ r. ⌜ r ≡ hueOf (huePoint p) ⌝ }
+// The hue bin of a coloured pixel. Its channels come singly, since a struct would go through memory at every call.
+pub fn hue_of(red: u8, green: u8, blue: u8) -> u8
+    ensures { λ r. ⌜ r ≡ hueOf (huePoint (record { red = red; green = green; blue = blue })) ⌝ }
 {
-    let t = turned_back(p);
+    let t = turned_back(Pixel { red, green, blue });
     (15 * t.quarter + tangents_passed(t.a, t.b)) as u8
 }
 
-// The measures of one pixel. A grey needs no hue computed, and its saturation bin is 0 or 1.
+// A grey needs no hue computed.
+pub fn hue_bin(p: Pixel) -> u8
+    ensures { λ r. ⌜ r ≡ hueBin p ⌝ }
+{
+    if is_grey(p) {
+        0
+    } else {
+        hue_of(p.red, p.green, p.blue)
+    }
+}
+
+// All measures of one pixel.
 pub fn measure(p: Pixel) -> Measures
     ensures { λ r. ⌜ r ≡ measuresOf p ⌝ }
 {
-    let intensity = intensity_bin(p);
-    let q = chroma_squared(p);
-    if q <= 136 {
-        Measures {
-            intensity,
-            saturation: at_least(q, 38) as u8,
-            hue: 0,
-            grey: true,
-        }
-    } else {
-        Measures {
-            intensity,
-            saturation: saturation_bin(q),
-            hue: hue_of(p),
-            grey: false,
-        }
+    Measures {
+        intensity: intensity_bin(p),
+        saturation: saturation_bin(p),
+        hue: hue_bin(p),
+        grey: is_grey(p),
     }
 }

@@ -83,12 +83,12 @@ returns c =
     let a = c .before .before .before .before .before .before .before .before .before .before .before .before .before .before .args in
     let h = a .t1 in
     let e = a .closeness in
-    let next = q .last .1 .1 .1 .1 .0 in
+    let next = q .last .1 .1 .1 .0 in
     let bins : length h ≡ 60 = search needs in
     let same : o .last .1 .0 ≡ opened h = o .ensures .1 ∙ over-all (opened h) (replicate 61 0) (ring-length h (omega arith) ∙ ap suc bins) in
     let n : s .result - 1 ≡ length (ringModes e h) = omega (arith, rw same at (s .ensures .0), separators-length e (opened h)) in
-    let long : length next ≡ length h = omega (arith, q .kept .1 .1 .1 .1 .0) in
-    rw n (ring-numbered e h (omega arith) _ (a .first) next long (rw (s .ensures .1, same, n, o .ensures .0) at (q .ensures)))
+    let long : length next ≡ length h = omega (arith, q .kept .1 .1 .1 .0) in
+    rw n (ring-numbered e h (omega arith) _ next long (rw (s .ensures .1, same, n, o .ensures .0) at (q .ensures)))
 
 pub hue-modes-spec : {M : Type 1} → statement M
 hue-modes-spec =

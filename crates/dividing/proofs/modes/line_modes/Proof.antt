@@ -41,9 +41,9 @@ number-bins-requires c κs =
     let h = a .h .now in
     let e = a .closeness in
     let n : s .result - 1 ≡ length (lineModes e h) = omega (arith, s .ensures .0, separators-length e h) in
-    let half = line-few e h (p .0 .0) in
-    let some = modes-cut e h (p .0 .0) .nonEmpty in
-    let rise : RisesFromZero (s .last .1 .1 .0) (s .result - 1) = rw (s .ensures .1, n) (held-rise e h (p .0 .0) _) in
+    let half = line-few e h (p .0) in
+    let some = modes-cut e h (p .0) .nonEmpty in
+    let rise : RisesFromZero (s .last .1 .1 .0) (s .result - 1) = rw (s .ensures .1, n) (held-rise e h (p .0) _) in
     ((omega (arith, n), omega (arith, n, half, s .kept .1 .1 .0), rise), (omega arith, omega arith, omega (arith, n, half)))
 
 same-length : tie.Need-same-length
@@ -57,10 +57,10 @@ returns c =
     let p = c .before .before .before .before .before .before .before .before .before .before .pre in
     let h = a .h .now in
     let e = a .closeness in
-    let next = q .last .1 .1 .1 .1 .0 in
+    let next = q .last .1 .1 .1 .0 in
     let n : s .result - 1 ≡ length (lineModes e h) = omega (arith, s .ensures .0, separators-length e h) in
-    let same : length next ≡ length h = omega (arith, q .kept .1 .1 .1 .1 .0) in
-    rw n (line-numbered e h (p .0 .0) _ (a .first) next same (rw (s .ensures .1, n) at (q .ensures)))
+    let same : length next ≡ length h = omega (arith, q .kept .1 .1 .1 .0) in
+    rw n (line-numbered e h (p .0) _ next same (rw (s .ensures .1, n) at (q .ensures)))
 
 pub line-modes-spec : {M : Type 1} → statement M
 line-modes-spec =

@@ -13,12 +13,12 @@ use Rattle.dividing.proofs.modes.number_bins.Statement.{statement}
 use Rattle.dividing.proofs.modes.number_bins.Tie as tie
 
 abbrev Inv-loop : tie.InvT-loop
-Inv-loop separators n opening first next₀ bins m₀ i₀ next m i =
-    (i ≤ bins) × (length next ≡ bins) × NotPassed separators n m i
-    × ((k : ℕ) → k < i → (x : ℕ) × Begun separators n x k × (getD next ((opening + k) % bins) 0 ≡ first + x))
+Inv-loop separators n opening modes₀ bins m₀ i₀ modes m i =
+    (i ≤ bins) × (length modes ≡ bins) × NotPassed separators n m i
+    × ((k : ℕ) → k < i → (x : ℕ) × Begun separators n x k × (getD modes ((opening + k) % bins) 0 ≡ x))
 
 abbrev μ-loop : tie.MeasureT-loop
-μ-loop separators n opening first next₀ bins m₀ i₀ next m i = bins - i
+μ-loop separators n opening modes₀ bins m₀ i₀ modes m i = bins - i
 
 loop-holds : tie.Need-loop-holds Inv-loop μ-loop
 loop-holds c =
@@ -32,28 +32,20 @@ loop-holds c =
 mode-at-requires : tie.Need-mode-at-requires Inv-loop μ-loop
 mode-at-requires c κs = search needs
 
-add-next : tie.Need-add-next Inv-loop μ-loop
-add-next c = search needs
+cast-modes : tie.Need-cast-modes Inv-loop μ-loop
+cast-modes c = search needs
 
-cast-next : tie.Need-cast-next Inv-loop μ-loop
-cast-next c = search needs
+add-modes : tie.Need-add-modes Inv-loop μ-loop
+add-modes c = search needs
 
-add-next-2 : tie.Need-add-next-2 Inv-loop μ-loop
-add-next-2 c = search needs
+rem-modes : tie.Need-rem-modes Inv-loop μ-loop
+rem-modes c = search needs
 
-rem-next : tie.Need-rem-next Inv-loop μ-loop
-rem-next c = search needs
-
-mul-next : tie.Need-mul-next Inv-loop μ-loop
-mul-next c =
-    let a = c .before .before .before .before .before .args in
-    omega (arith, mod-lt (a .opening + c .before .before .loop .i) {m = length (a .next .now)} (omega arith))
-
-slice-write-next : tie.Need-slice-write-next Inv-loop μ-loop
-slice-write-next c =
+slice-write-modes : tie.Need-slice-write-modes Inv-loop μ-loop
+slice-write-modes c =
     let a = c .before .before .before .before .before .args in
     let l = c .before .before .loop in
-    omega (arith, mod-lt (a .opening + l .i) {m = length (a .next .now)} (omega arith), l .inv .1)
+    omega (arith, mod-lt (a .opening + l .i) {m = length (a .modes .now)} (omega arith), l .inv .1)
 
 add-i : tie.Need-add-i Inv-loop μ-loop
 add-i c = search needs
@@ -66,21 +58,21 @@ loop-again c =
     let a = c .before .before .before .before .before .args in
     let p = c .before .before .before .before .before .pre in
     let l = c .before .before .loop in
-    let n = length (a .next .now) in
+    let n = length (a .modes .now) in
     let here = (a .opening + l .i) % n in
-    let v = a .first + c .mode-at .result in
+    let v = c .mode-at .result in
     let b = c .mode-at .ensures in
-    let inside : here < length (l .next) = omega (arith, mod-lt (a .opening + l .i) {m = n} (omega arith), l .inv .1) in (
+    let inside : here < length (l .modes) = omega (arith, mod-lt (a .opening + l .i) {m = n} (omega arith), l .inv .1) in (
       omega arith,
       simp length-set (l .inv .1),
       record { mode = b .mode; begun = omega (arith, b .begun); notYet = λ k. omega (arith, b .notNext k) },
       λ k r. by-order k (l .i)
           (λ q.
           let old = l .inv .3 k q in
-          (old .0, old .1, getD-set-other (l .next) here ((a .opening + k) % n) v 0 (λ e. turned-apart (a .opening) k (l .i) n (omega arith) q (omega arith) e) ∙ old .2))
+          (old .0, old .1, getD-set-other (l .modes) here ((a .opening + k) % n) v 0 (λ e. turned-apart (a .opening) k (l .i) n (omega arith) q (omega arith) e) ∙ old .2))
           (λ q.
           let e : k ≡ l .i = omega arith in
-          rw e (c .mode-at .result, b, getD-set-same (l .next) here v 0 inside)),
+          rw e (c .mode-at .result, b, getD-set-same (l .modes) here v 0 inside)),
     )
 
 same-length : tie.Need-same-length Inv-loop μ-loop
@@ -89,7 +81,7 @@ same-length c = search needs
 returns : tie.Need-returns Inv-loop μ-loop
 returns c =
     let l = c .before .loop in
-    let same : l .i ≡ length (l .next) = omega (arith, l .inv .1) in
+    let same : l .i ≡ length (l .modes) = omega (arith, l .inv .1) in
     λ i k. rw (l .inv .1) (l .inv .3 i (omega arith))
 
 pub number-bins-spec : {M : Type 1} → statement M
@@ -100,12 +92,10 @@ number-bins-spec =
     μ-loop
     loop-holds
     mode-at-requires
-    add-next
-    cast-next
-    add-next-2
-    rem-next
-    mul-next
-    slice-write-next
+    cast-modes
+    add-modes
+    rem-modes
+    slice-write-modes
     add-i
     loop-less
     loop-again

@@ -1,5 +1,5 @@
 -- `saturation_modes` meets its contract: it is a line as the intensities are. Assumes nothing.
-use Rattle.dividing.specs.Nodes.{modeOf}
+use Rattle.dividing.specs.Splitting.{modeOf}
 use borrow.Author.Needs.{needs}
 use Rattle.dividing.proofs.modes.saturation_modes.Statement.{statement}
 use Rattle.dividing.proofs.modes.saturation_modes.Tie as tie
@@ -17,7 +17,7 @@ returns : tie.Need-returns
 unfolding modeOf
 returns c =
     let r = c .before .before .line-modes .ensures in
-    record { modes = r .modes; numbered = r .numbered }
+    record { found = r .found; numbered = r .numbered }
 
 pub saturation-modes-spec : {M : Type 1} → statement M
 saturation-modes-spec =

@@ -24,10 +24,10 @@ use Rattle.kistrovu.proofs.printing.print_pixels.Statement.{statement}
 use Rattle.kistrovu.proofs.printing.print_pixels.Tie as tie
 
 make-card-requires : tie.Need-make-card-requires
-unfolding mostPixels mostSwatchPixels mostCloseness
+unfolding mostCloseness
 make-card-requires c κs =
     let p = c .before .before .before .before .pre in
-    (p .0, omega (arith, p .1), omega arith)
+    (p .0, p .1, omega arith)
 
 cast-if1 : tie.Need-cast-if1
 cast-if1 c = search needs
@@ -44,7 +44,7 @@ returns c =
     let bytes = a .pixels .now in
     let ps = pixelsOf bytes in
     let es = entries 0 ps in
-    let is : r .result .total ≡ length es = ap (λ (m : CardEntries). m .total) (r .ensures .0) ∙ total-is 0 ps in
+    let is : r .result .total ≡ length es = ap (λ (m : CardEntries). m .total) (r .ensures) ∙ total-is 0 ps in
     let long = pixels-length bytes (length (a .labels .now)) (p .0) in
     let byte : (j : ℕ) → getD bytes j 0 < 256 = λ j. let known = c .before .before .before .before .before .before .before .before .before .shared-slice-known .given j in omega arith in
     let sound = always-sound 0 ps (omega (arith, long, p .1)) (λ i l. pixels-bytes bytes byte i) in
@@ -69,8 +69,8 @@ cast-t15 c =
     let a = c .before .before .before .before .before .before .before .before .before .before .before .before .before .before .before .args in
     let m = c .before .before .before .before .before .before .before .before .before .before .make-card in
     let ps = pixelsOf (a .pixels .now) in
-    let held = entries-held 0 ps (m .result) (m .ensures .0) (omega arith) in
-    let many : length (take (m .result .total) (m .result .entries)) ≤ 255 = rw held (omega (arith, ap (λ (x : CardEntries). x .total) (m .ensures .0) ∙ total-is 0 ps)) in
+    let held = entries-held 0 ps (m .result) (m .ensures) (omega arith) in
+    let many : length (take (m .result .total) (m .result .entries)) ≤ 255 = rw held (omega (arith, ap (λ (x : CardEntries). x .total) (m .ensures) ∙ total-is 0 ps)) in
     omega (arith, w .ensures .1, printed-fits (length (a .labels .now)) 0 (take (m .result .total) (m .result .entries)) many)
 
 same-length-2 : tie.Need-same-length-2
@@ -88,14 +88,14 @@ returns-2 c =
     let bytes = a .pixels .now in
     let ps = pixelsOf bytes in
     let es = entries 0 ps in
-    let is : r .result .total ≡ length es = ap (λ (m : CardEntries). m .total) (r .ensures .0) ∙ total-is 0 ps in
+    let is : r .result .total ≡ length es = ap (λ (m : CardEntries). m .total) (r .ensures) ∙ total-is 0 ps in
     let long = pixels-length bytes (length (a .labels .now)) (p .0) in
     let byte : (j : ℕ) → getD bytes j 0 < 256 = λ j. let known = c .before .before .before .before .before .before .before .before .before .before .before .before .before .before .shared-slice-known .given j in omega arith in
     let sound = always-sound 0 ps (omega (arith, long, p .1)) (λ i l. pixels-bytes bytes byte i) in
     let w = c .before .before .print-card in
     let few : length es ≤ 255 = omega (arith, is) in
     let one = le-ltb 255 (length es) few in
-    let held : take (r .result .total) (r .result .entries) ≡ es = entries-held 0 ps (r .result) (r .ensures .0) (omega arith) in
+    let held : take (r .result .total) (r .result .entries) ≡ es = entries-held 0 ps (r .result) (r .ensures) (omega arith) in
     let text = ap (λ (xs : List Entry). printedCard (length (a .labels .now)) 0 xs) held ∙ ap (λ (k : ℕ). printedCard k 0 es) (sym long) in (
       rw one (record {
         numbered = refl;

@@ -1,59 +1,86 @@
--- `entries_of` meets its contract. The loop's invariant: the entries of the labels passed stand in the first places. Assumes nothing.
+-- `entries_of` meets its contract. The loop's invariant: the entries passed stand in the first places, and their pixels have their labels. Assumes nothing.
+use Prim.Native.Nat.{ℕ, _+_, _*_, _-_, _≤_}
 use mathlib.Core.Path.{_≡_, refl, sym, ap, _∙_}
 use mathlib.Core.List.{List}
-use Prim.Native.Nat.{ℕ, _-_, _≤_, _<_}
 use native.Mathlib.Omega.{arith}
 use borrow.Author.Needs.{needs}
-use lib.ListN.{length, take, getD, set, replicate, length-set}
-use lib.Seq.{take-all, length-take-le, getD-take}
-use lib.Dec.{eqb}
-use Rattle.lists.specs.Lists.{countIf, over}
-use Rattle.lists.proofs.Buffers.{over-none, over-padded, over-next}
-use Rattle.lists.proofs.Counting.{count-le}
-use Rattle.palette.specs.Cards.{pixelsOf, mostEntries, noEntry}
+use lib.ListN.{length, getD, replicate}
+use lib.Seq.{take-all}
+use Rattle.lists.specs.Lists.{over}
+use Rattle.lists.proofs.Buffers.{over-none, over-padded}
 use Rattle.palette.specs.declared.Entry.{Entry}
-use Rattle.making.specs.Making.{entriesBy}
-use Rattle.dividing.proofs.Tallies.{tally-at}
-use Rattle.making.proofs.Figures.{entries-length, entries-at, totals-le}
+use Rattle.palette.specs.Cards.{pixelsOf, mostEntries, noEntry}
+use Rattle.palette.specs.Sound.{mostPixels}
+use Rattle.making.specs.Making.{entriesBy, labelsBy}
+use Rattle.making.proofs.Made.{Made, entries-long, next-within, part-long, part-in, part-few, made-more}
 use Rattle.making.proofs.entries.entries_of.Statement.{statement}
 use Rattle.making.proofs.entries.entries_of.Tie as tie
 
 abbrev Inv-loop : tie.InvT-loop
-Inv-loop pixels labels codes n counts reds greens blues entries₀ k₀ entries k =
-    (k ≤ n) × (length entries ≡ length entries₀) × (entries ≡ over (take k (entriesBy n codes labels (pixelsOf pixels))) entries₀)
+Inv-loop pixels numbers codes sizes n labels₀ entries₀ at₀ k₀ labels entries at k = Made pixels numbers codes sizes labels₀ n entries₀ k at labels entries
 
 abbrev μ-loop : tie.MeasureT-loop
-μ-loop pixels labels codes n counts reds greens blues entries₀ k₀ entries k = n - k
+μ-loop pixels numbers codes sizes n labels₀ entries₀ at₀ k₀ labels entries at k = n - k
 
-slice-aggregate-count-cells : tie.Need-slice-aggregate-count-cells Inv-loop μ-loop
-slice-aggregate-count-cells c = search needs
+-- the way to the call, and the blank entries
+abbrev entry : tie.At-loop Inv-loop μ-loop → tie.Start Inv-loop μ-loop
+entry c = c .before .before .before .before .before .before .before
 
-count-cells-requires : tie.Need-count-cells-requires Inv-loop μ-loop
-unfolding mostEntries
-count-cells-requires c κs =
-    let a = c .before .before .before .before in
-    (a .pre .0 .1, λ i l. let below = a .pre .1 .0 i l in omega arith)
+abbrev blank : tie.At-loop Inv-loop μ-loop → List Entry
+blank c = replicate 255 (c .before .no-entry .result)
 
-slice-aggregate-add-channels : tie.Need-slice-aggregate-add-channels Inv-loop μ-loop
-slice-aggregate-add-channels c = search needs
-
-slice-aggregate-add-channels-2 : tie.Need-slice-aggregate-add-channels-2 Inv-loop μ-loop
-slice-aggregate-add-channels-2 c = search needs
-
-slice-aggregate-add-channels-3 : tie.Need-slice-aggregate-add-channels-3 Inv-loop μ-loop
-slice-aggregate-add-channels-3 c = search needs
-
-add-channels-requires : tie.Need-add-channels-requires Inv-loop μ-loop
-unfolding mostEntries
-add-channels-requires c κs =
-    let a = c .before .before .before .before .before .before .before .before .before in
-    ((a .pre .0 .0, a .pre .0 .1, λ i l. let below = a .pre .1 .0 i l in omega arith), (refl, refl, refl))
+next : (c : tie.In-loop Inv-loop μ-loop) → c .before .loop .at + getD (entry (c .before) .args .sizes .now) (c .before .loop .k) 0 ≤ length (entry (c .before) .args .numbers .now)
+next c =
+    let l = c .before .loop in
+    let a = entry (c .before) .args in
+    next-within (a .pixels .now) (a .numbers .now) (a .codes .now) (a .sizes .now) (a .labels .now) (a .n) (entry (c .before) .pre) (blank (c .before)) (l .k) (l .at) (l .labels) (l .entries) (l .inv)
+    (c .loop-test .taken)
 
 no-entry-requires : tie.Need-no-entry-requires Inv-loop μ-loop
 no-entry-requires c κs = search needs
 
 loop-holds : tie.Need-loop-holds Inv-loop μ-loop
-loop-holds c = (search needs, refl, sym (over-none _))
+unfolding labelsBy
+loop-holds c = record { within = omega arith; start = refl; room = refl; made = sym (over-none _); long = refl; given = refl }
+
+mul-end : tie.Need-mul-end Inv-loop μ-loop
+mul-end c = search needs
+
+shared-slice-read-end : tie.Need-shared-slice-read-end Inv-loop μ-loop
+shared-slice-read-end c = search needs
+
+cast-end : tie.Need-cast-end Inv-loop μ-loop
+cast-end c = omega (arith, c .shared-slice-known5 .given (c .before .before .loop .k))
+
+add-end : tie.Need-add-end Inv-loop μ-loop
+unfolding mostPixels
+add-end c = let p = entry (c .before .before) .pre in omega (arith, next (c .before), p .numbered, p .many)
+
+mul-gather : tie.Need-mul-gather Inv-loop μ-loop
+unfolding mostPixels
+mul-gather c = let p = entry (c .before .before) .pre in omega (arith, next (c .before), p .numbered, p .many)
+
+sub-gather : tie.Need-sub-gather Inv-loop μ-loop
+sub-gather c = omega arith
+
+part-gather-start : tie.Need-part-gather-start Inv-loop μ-loop
+part-gather-start c = omega arith
+
+part-gather-end : tie.Need-part-gather-end Inv-loop μ-loop
+part-gather-end c = omega (arith, next (c .before))
+
+cast-gather : tie.Need-cast-gather Inv-loop μ-loop
+unfolding mostEntries
+cast-gather c = omega (arith, entry (c .before .before .before) .pre .few)
+
+gather-requires : tie.Need-gather-requires Inv-loop μ-loop
+gather-requires c κs =
+    let l = c .before .before .before .before .loop in
+    let a = entry (c .before .before .before .before) .args in
+    let p = entry (c .before .before .before .before) .pre in
+    let t = c .before .before .before .loop-test .taken in
+    let long = part-long (a .pixels .now) (a .numbers .now) (a .codes .now) (a .sizes .now) (a .labels .now) (a .n) p (blank (c .before .before .before .before)) (l .k) (l .at) (l .labels) (l .entries) (l .inv) t in
+    (omega (arith, long, next (c .before .before .before), p .numbered, p .many), part-in (a .pixels .now) (a .numbers .now) (a .codes .now) (a .sizes .now) (a .labels .now) (a .n) p (blank (c .before .before .before .before)) (l .k) (l .at) (l .labels) (l .entries) (l .inv) t, p .pixels ∙ ap (λ (j : ℕ). 3 * j) (sym (l .inv .long)))
 
 mul-entry : tie.Need-mul-entry Inv-loop μ-loop
 mul-entry c = search needs
@@ -64,65 +91,30 @@ shared-slice-read-entry c = search needs
 mul-entry-2 : tie.Need-mul-entry-2 Inv-loop μ-loop
 mul-entry-2 c = search needs
 
-array-read-entry : tie.Need-array-read-entry Inv-loop μ-loop
-unfolding mostEntries
-array-read-entry c = let few = c .before .before .before .before .before .before .before .before .before .before .before .before .before .before .before .before .before .pre .0 .2 in omega arith
-
-mul-entry-3 : tie.Need-mul-entry-3 Inv-loop μ-loop
-mul-entry-3 c = search needs
-
-array-read-entry-2 : tie.Need-array-read-entry-2 Inv-loop μ-loop
-unfolding mostEntries
-array-read-entry-2 c = let few = c .before .before .before .before .before .before .before .before .before .before .before .before .before .before .before .before .before .pre .0 .2 in omega arith
-
-mul-entry-4 : tie.Need-mul-entry-4 Inv-loop μ-loop
-mul-entry-4 c = search needs
-
-array-read-entry-3 : tie.Need-array-read-entry-3 Inv-loop μ-loop
-unfolding mostEntries
-array-read-entry-3 c = let few = c .before .before .before .before .before .before .before .before .before .before .before .before .before .before .before .before .before .pre .0 .2 in omega arith
-
-mul-entry-5 : tie.Need-mul-entry-5 Inv-loop μ-loop
-mul-entry-5 c = search needs
-
-array-read-entry-4 : tie.Need-array-read-entry-4 Inv-loop μ-loop
-unfolding mostEntries
-array-read-entry-4 c = let few = c .before .before .before .before .before .before .before .before .before .before .before .before .before .before .before .before .before .pre .0 .2 in omega arith
+shared-slice-read-entry-2 : tie.Need-shared-slice-read-entry-2 Inv-loop μ-loop
+shared-slice-read-entry-2 c = search needs
 
 entry-requires : tie.Need-entry-requires Inv-loop μ-loop
-unfolding mostEntries
 entry-requires c κs =
-    let l = c .before .before .loop in
-    let a = c .before .before .before .before .before .before .before .before .before .before .before .before .before .before .before .before .before in
-    let codes = a .args .codes .now in
-    let labels = a .args .labels .now in
-    let bytes = a .args .pixels .now in
-    let counts = c .before .before .before .before .before .before .before .before .before .before .before .before .count-cells in
-    let sums = c .before .before .before .before .before .before .before .add-channels in
-    let byte : (j : ℕ) → getD bytes j 0 < 256 = λ j. let byte = c .before .before .before .before .before .before .before .before .before .before .before .before .before .before .before .before .shared-slice-known .given j in omega arith in
-    let few = a .pre .0 .2 in
-    let k : l .k < 255 = omega arith in
-    let count : getD (counts .last .1 .0) (l .k) 0 ≡ countIf (eqb (l .k)) labels = ap (λ (xs : List ℕ). getD xs (l .k) 0) (counts .ensures) ∙ tally-at 255 labels (l .k) k in
-    let borne = a .pre .1 .2 (l .k) (omega arith) in (
-      omega (arith, a .pre .1 .1 (l .k) (omega (arith, length-take-le (a .args .n) codes (a .pre .0 .3))), getD-take (a .args .n) codes (l .k) 0 (omega arith)),
-      omega arith,
-      omega (arith, count-le (eqb (l .k)) labels, a .pre .0 .1),
-      totals-le 255 0 bytes labels (counts .last .1 .0) (sums .last .1 .1 .0) (l .k) k byte (counts .ensures) (sums .ensures .red),
-      totals-le 255 1 bytes labels (counts .last .1 .0) (sums .last .1 .1 .1 .0) (l .k) k byte (counts .ensures) (sums .ensures .green),
-      totals-le 255 2 bytes labels (counts .last .1 .0) (sums .last .1 .1 .1 .1 .0) (l .k) k byte (counts .ensures) (sums .ensures .blue),
-    )
+    let l = c .before .before .before .before .before .before .before .before .before .loop in
+    let a = entry (c .before .before .before .before .before .before .before .before .before) .args in
+    let p = entry (c .before .before .before .before .before .before .before .before .before) .pre in
+    let t = c .before .before .before .before .before .before .before .before .loop-test .taken in
+    let few = part-few (a .pixels .now) (a .numbers .now) (a .codes .now) (a .sizes .now) (a .labels .now) (a .n) p (blank (c .before .before .before .before .before .before .before .before .before)) (l .k) (l .at) (l .labels) (l .entries) (l .inv) t (c .before .before .before .before .gather .result) (c .before .before .before .before .gather .ensures .0)
+    (λ j. let known = c .before .before .before .before .before .before .before .before .before .before .before .before .before .before .before .shared-slice-known .given j in omega arith) in
+    (p .small (l .k) t, p .filled (l .k) t, omega (arith, next (c .before .before .before .before .before .before .before .before), p .numbered, p .many), few .red, few .green, few .blue)
 
 mul-entries : tie.Need-mul-entries Inv-loop μ-loop
 unfolding mostEntries
-mul-entries c = let few = c .before .before .before .before .before .before .before .before .before .before .before .before .before .before .before .before .before .before .pre .0 .2 in omega arith
+mul-entries c = omega (arith, entry (c .before .before .before .before .before .before .before .before .before .before) .pre .few)
 
 array-set-from-entries : tie.Need-array-set-from-entries Inv-loop μ-loop
 unfolding mostEntries
-array-set-from-entries c = let few = c .before .before .before .before .before .before .before .before .before .before .before .before .before .before .before .before .before .before .pre .0 .2 in omega arith
+array-set-from-entries c = omega (arith, entry (c .before .before .before .before .before .before .before .before .before .before) .pre .few)
 
 add-k : tie.Need-add-k Inv-loop μ-loop
 unfolding mostEntries
-add-k c = let few = c .before .before .before .before .before .before .before .before .before .before .before .before .before .before .before .before .before .before .pre .0 .2 in omega arith
+add-k c = omega (arith, entry (c .before .before .before .before .before .before .before .before .before .before) .pre .few)
 
 loop-less : tie.Need-loop-less Inv-loop μ-loop
 loop-less c = search needs
@@ -130,34 +122,28 @@ loop-less c = search needs
 loop-again : tie.Need-loop-again Inv-loop μ-loop
 unfolding mostEntries
 loop-again c =
-    let l = c .before .before .before .loop in
-    let a = c .before .before .before .before .before .before .before .before .before .before .before .before .before .before .before .before .before .before in
-    let codes = a .args .codes .now in
-    let labels = a .args .labels .now in
-    let bytes = a .args .pixels .now in
-    let counts = c .before .before .before .before .before .before .before .before .before .before .before .before .before .count-cells in
-    let sums = c .before .before .before .before .before .before .before .before .add-channels in
-    let n = entries-length (a .args .n) codes labels (pixelsOf bytes) in
-    let few = a .pre .0 .2 in
-    let made : c .entry .result ≡ getD (entriesBy (a .args .n) codes labels (pixelsOf bytes)) (l .k) noEntry =
-    entries-at (a .args .n) codes labels (pixelsOf bytes) 255 (counts .last .1 .0) (sums .last .1 .1 .0) (sums .last .1 .1 .1 .0) (sums .last .1 .1 .1 .1 .0) (l .k)
-    (c .entry .result) (omega arith) few (counts .ensures) (sums .ensures .red) (sums .ensures .green) (sums .ensures .blue) (c .entry .ensures) in (
-      omega arith,
-      simp length-set (l .inv .1),
-      ap (λ (es : List Entry). set es (l .k) (c .entry .result)) (l .inv .2)
-          ∙ over-next (entriesBy (a .args .n) codes labels (pixelsOf bytes)) (replicate 255 (c .before .before .before .before .no-entry .result)) noEntry (l .k) (c .entry .result) (omega arith)
-          (omega arith) made,
-    )
+    let l = c .before .before .before .before .before .before .before .before .before .before .loop in
+    let a = entry (c .before .before .before .before .before .before .before .before .before .before) .args in
+    let p = entry (c .before .before .before .before .before .before .before .before .before .before) .pre in
+    let t = c .before .before .before .before .before .before .before .before .before .loop-test .taken in
+    let g = c .before .before .before .before .before .gather in
+    made-more (a .pixels .now) (a .numbers .now) (a .codes .now) (a .sizes .now) (a .labels .now) (a .n) p (blank (c .before .before .before .before .before .before .before .before .before .before)) (l .k) (l .at) (l .labels) (l .entries) (l .inv) t (g .result) (g .ensures .0) (c .entry .result) (g .last .1 .1 .1 .0) (c .entry .ensures) (g .ensures .1) (omega (arith, p .few))
+
+same-length : tie.Need-same-length Inv-loop μ-loop
+same-length c = c .before .loop .inv .long
 
 returns : tie.Need-returns Inv-loop μ-loop
 unfolding mostEntries
 returns c =
     let l = c .before .loop in
-    let a = c .before .before .before .before .before .before .before .before .before .before .before .before .before .before .before .before in
-    let made = entriesBy (a .args .n) (a .args .codes .now) (a .args .labels .now) (pixelsOf (a .args .pixels .now)) in
-    let n = entries-length (a .args .n) (a .args .codes .now) (a .args .labels .now) (pixelsOf (a .args .pixels .now)) in
-    l .inv .2 ∙ ap (λ (es : List Entry). over es (replicate 255 (c .before .before .no-entry .result))) (take-all (l .k) made (omega arith))
-    ∙ ap (λ (z : Entry). over made (replicate 255 z)) (c .before .before .no-entry .ensures) ∙ over-padded 255 noEntry made
+    let a = entry (c .before) .args in
+    let made = entriesBy (a .n) (a .codes .now) (a .sizes .now) (a .numbers .now) (pixelsOf (a .pixels .now)) in
+    let long = entries-long (a .n) (a .codes .now) (a .sizes .now) (a .numbers .now) (pixelsOf (a .pixels .now)) in
+    let end : l .k ≡ a .n = omega (arith, l .inv .within, c .loop-test .left) in (
+      l .inv .made ∙ ap (λ (es : List Entry). over es (blank (c .before))) (take-all (l .k) made (omega arith))
+          ∙ ap (λ (z : Entry). over made (replicate 255 z)) (c .before .before .no-entry .ensures) ∙ over-padded 255 noEntry made,
+      l .inv .given ∙ ap (λ (k : ℕ). labelsBy (a .sizes .now) (a .numbers .now) k (a .labels .now)) end,
+    )
 
 pub entries-of-spec : {M : Type 1} → statement M
 entries-of-spec =
@@ -165,28 +151,27 @@ entries-of-spec =
     (tie.spec
     Inv-loop
     μ-loop
-    slice-aggregate-count-cells
-    count-cells-requires
-    slice-aggregate-add-channels
-    slice-aggregate-add-channels-2
-    slice-aggregate-add-channels-3
-    add-channels-requires
     no-entry-requires
     loop-holds
+    mul-end
+    shared-slice-read-end
+    cast-end
+    add-end
+    mul-gather
+    sub-gather
+    part-gather-start
+    part-gather-end
+    cast-gather
+    gather-requires
     mul-entry
     shared-slice-read-entry
     mul-entry-2
-    array-read-entry
-    mul-entry-3
-    array-read-entry-2
-    mul-entry-4
-    array-read-entry-3
-    mul-entry-5
-    array-read-entry-4
+    shared-slice-read-entry-2
     entry-requires
     mul-entries
     array-set-from-entries
     add-k
     loop-less
     loop-again
+    same-length
     returns)

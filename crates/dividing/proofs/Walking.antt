@@ -1,0 +1,253 @@
+-- What splitting asks of walking and walking of splitting, and how their results come together. Assumes nothing.
+use Prim.Native.Nat.{ℕ, zero, suc, _+_, _*_, _-_, _^_, _≤_, _<_}
+use mathlib.Core.Path.{_≡_, refl, sym, ap, ap₂, _∙_}
+use mathlib.Core.List.{List, [], _∷_, _++_, append-nil, append-assoc}
+use native.Mathlib.Omega.{arith}
+use native.Mathlib.Numerals.{add-one}
+use native.Mathlib.Nat.{mul-le-mul-left, mul-le-mul-right}
+use lib.ListN.{length, take, drop, getD, length-append, length-drop, length-map, drop-of-length-le}
+use lib.Seq.{take-all, take-at, drop-at, take-suc, take-add, drop-drop, take-append-le, drop-append-le, length-take-le, getD-take, getD-drop}
+use borrow.Rule.Slice.PartMut.{putMid, same-len-mid}
+use Rattle.lists.specs.Lists.{total}
+use Rattle.lists.proofs.Sums.{total-more, total-take-le}
+use Rattle.lists.proofs.Places.{map-at}
+use Rattle.pixel.specs.declared.Pixel.{Pixel}
+use Rattle.verdict.specs.Test.{Closeness}
+use Rattle.palette.specs.Levels.{Level, binCount}
+use Rattle.palette.specs.Cards.{pixelsOf}
+use Rattle.dividing.specs.Sorted.{AllBelow, tally}
+use Rattle.dividing.specs.Splitting.{AllIn, levelAt, binsOf, modesOf, marksOf, modeOf, LevelSorted, leaves, walked, resting, Split}
+use Rattle.dividing.proofs.Tallies.{tally-length}
+use Rattle.dividing.proofs.Scattering.{start-all}
+use Rattle.dividing.proofs.Gathering.{sums-start}
+use Rattle.dividing.proofs.Ranges.{bins-length}
+use Rattle.dividing.proofs.LevelSort.{mode-below, keys-below}
+use Rattle.dividing.proofs.Splits.{split-none, split-both, resting-both, walk-all, sorted-in, room-more, room-some, modes-64, leaves-few}
+
+-- ---- from splitting to walking
+marks-in : (e : Closeness) (l : Level) (keys : List ℕ) → AllBelow keys (binCount l) → AllBelow (marksOf e l keys) (modesOf e l keys)
+unfolding marksOf modesOf
+marks-in e l keys below i k =
+    let h = tally (binCount l) keys in
+    let u : i < length keys = omega (arith, length-map keys (modeOf e l h)) in
+    rw (map-at (modeOf e l h) keys i 0 0 u) (mode-below e l h (tally-length (binCount l) keys) (getD keys i 0) (below i u))
+
+pub record Walkable (left code found : ℕ) (bytes xs sizes sorted : List ℕ) (n : ℕ) : Type 0 where
+  pub fits : n ≤ length sizes
+  pub long : length (take n sizes) ≡ n
+  pub room : found + length (take n sizes) * 64 ^ (left - 1) ≤ 2 ^ 32
+  pub digits : (code * 64 + length (take n sizes)) * 64 ^ (left - 1) ≤ 2 ^ 20
+  pub inside : AllIn sorted bytes
+  pub whole : total (take n sizes) ≡ length xs
+
+pub split-walkable : (e : Closeness) (bytes : List ℕ) → ((j : ℕ) → getD bytes j 0 < 256) → (left code found : ℕ) (xs sizes sorted : List ℕ) (n : ℕ) → 1 ≤ left
+    → found + 64 ^ left ≤ 2 ^ 32 → (code + 1) * 64 ^ left ≤ 2 ^ 20 → AllIn xs bytes
+    → LevelSorted e (levelAt left) (binsOf (pixelsOf bytes) (levelAt left) xs) xs sizes sorted n → Walkable left code found bytes xs sizes sorted n
+unfolding marksOf
+split-walkable e bytes byte left code found xs sizes sorted n some room digits inside s =
+    let l = levelAt left in
+    let keys = binsOf (pixelsOf bytes) l xs in
+    let ks = marksOf e l keys in
+    let few : n ≤ 64 = omega (arith, s .modes, modes-64 e (pixelsOf bytes) l keys) in
+    let sized : length sizes ≡ 64 = ap length (s .counts) ∙ tally-length 64 ks in
+    let long : length (take n sizes) ≡ n = length-take-le n sizes (omega arith) in
+    let below : AllBelow ks n = rw (s .modes) (marks-in e l keys (keys-below bytes byte l xs keys refl)) in
+    let more = room-more left some in
+    let times = mul-le-mul-right (64 ^ (left - 1)) few in
+    record {
+      fits = omega arith;
+      long = long;
+      room = rw long (omega arith);
+      digits = rw long (omega (arith, ap (λ (j : ℕ). code * j) more));
+      inside = rw (s .order) (sorted-in 64 ks xs bytes inside);
+      whole = ap (λ (z : List ℕ). total (take n z)) (s .counts) ∙ sums-start 64 ks n few ∙ start-all ks n below ∙ length-map keys _ ∙ bins-length (pixelsOf bytes) l xs;
+    }
+
+pub split-walked : (e : Closeness) (ps : List Pixel) (left code found : ℕ) (xs sizes sorted : List ℕ) (n : ℕ) (codes figures codes′ figures′ a b : List ℕ) (found′ : ℕ) → 1 ≤ left
+    → LevelSorted e (levelAt left) (binsOf ps (levelAt left) xs) xs sizes sorted n
+    → Split (walked e ps (left - 1) (code * 64) (take n sizes) sorted) found codes figures codes′ figures′ (resting (left - 1) b a) found′
+    → Split (leaves e ps left code xs) found codes figures codes′ figures′ (resting left a b) found′
+split-walked e ps zero code found xs sizes sorted n codes figures codes′ figures′ a b found′ some s r = absurd (omega arith)
+split-walked e ps (suc left) code found xs sizes sorted n codes figures codes′ figures′ a b found′ some s r =
+    let z : suc left - 1 ≡ left = omega arith in
+    let few : n ≤ 64 = omega (arith, s .modes, modes-64 e ps (levelAt (suc left)) (binsOf ps (levelAt (suc left)) xs)) in
+    let all = walk-all e ps (suc left) code xs sizes sorted n some (s .modes) few (s .counts) (s .order) in
+    rw (z) at (rw all at r)
+
+-- ---- a list lent from a place on
+abbrev pub sliceFrom : ℕ → List ℕ → List ℕ
+sliceFrom k xs = take (length xs - k) (drop k xs)
+
+abbrev pub putFrom : ℕ → List ℕ → List ℕ → List ℕ
+putFrom k xs w = putMid k (length xs - k) xs w
+
+pub from-is : (k : ℕ) (xs : List ℕ) → sliceFrom k xs ≡ drop k xs
+from-is k xs = take-all (length xs - k) (drop k xs) (omega (arith, length-drop k xs))
+
+pub put-from : (k : ℕ) (xs w : List ℕ) → putFrom k xs w ≡ take k xs ++ w
+put-from k xs w =
+    ap (λ (y : List ℕ). take k xs ++ (w ++ y)) (drop-of-length-le (drop k xs) {i = length xs - k} (omega (arith, length-drop k xs)))
+    ∙ ap (λ (y : List ℕ). take k xs ++ y) (append-nil w)
+
+-- ---- what walking gives: of one range more, and how much
+walked-last : (e : Closeness) (ps : List Pixel) (left code : ℕ) (ss : List ℕ) (s : ℕ) (xs ys : List ℕ) → total ss ≡ length xs → length ys ≡ s
+    → walked e ps left code (ss ++ (s ∷ [])) (xs ++ ys) ≡ walked e ps left code ss xs ++ leaves e ps left (code + length ss) ys
+unfolding walked
+walked-last e ps left code [] s (x ∷ xs) ys t l = absurd (omega arith)
+walked-last e ps left code [] s [] ys t l =
+    let z : code ≡ code + 0 = omega arith in
+    append-nil (leaves e ps left code (take s ys)) ∙ ap₂ (leaves e ps left) z (take-all s ys (omega arith))
+walked-last e ps left code (r ∷ ss) s xs ys t l =
+    let fits : r ≤ length xs = omega arith in
+    let z : suc code + length ss ≡ code + suc (length ss) = omega arith in
+    ap₂ (λ (a b : List ℕ). leaves e ps left code a ++ walked e ps left (suc code) (ss ++ (s ∷ [])) b) (take-append-le r xs ys fits) (drop-append-le r xs ys fits)
+    ∙ ap (λ ls. leaves e ps left code (take r xs) ++ ls)
+    (walked-last e ps left (suc code) ss s (drop r xs) ys (omega (arith, length-drop r xs)) l ∙ ap (λ (j : ℕ). walked e ps left (suc code) ss (drop r xs) ++ leaves e ps left j ys) z)
+    ∙ sym (append-assoc (leaves e ps left code (take r xs)) (walked e ps left (suc code) ss (drop r xs)) (leaves e ps left (code + suc (length ss)) ys))
+
+walked-few : (e : Closeness) (ps : List Pixel) (left code : ℕ) (ss xs : List ℕ) → length (walked e ps left code ss xs) ≤ length ss * 64 ^ left
+unfolding walked
+walked-few e ps left code [] xs = omega arith
+walked-few e ps left code (s ∷ ss) xs =
+    omega (arith, length-append (leaves e ps left code (take s xs)) (walked e ps left (suc code) ss (drop s xs)), leaves-few e ps left code (take s xs), walked-few e ps left (suc code) ss (drop s xs))
+
+-- ---- a part of a list lent and given back
+pub part-long : (at s : ℕ) (xs : List ℕ) → at + s ≤ length xs → length (take (at + s - at) (drop at xs)) ≡ s
+part-long at s xs fits =
+    let size : at + s - at ≡ s = omega arith in
+    length-take-le (at + s - at) (drop at xs) (omega (arith, length-drop at xs)) ∙ size
+
+module _ (at s : ℕ) (xs u : List ℕ) (fits : at + s ≤ length xs) (long : length u ≡ length (take (at + s - at) (drop at xs))) where
+  size : at + s - at ≡ s
+  size = omega arith
+
+  seam : length (take at xs ++ u) ≡ at + s
+  seam = length-append (take at xs) u ∙ omega (arith, length-take-le at xs (omega arith), long, part-long at s xs fits)
+
+  pub put-front : take (at + s) (putMid at (at + s - at) xs u) ≡ take at xs ++ u
+  put-front = ap (take (at + s)) (sym (append-assoc (take at xs) u _)) ∙ take-at (take at xs ++ u) _ (at + s) seam
+
+  pub put-rest : drop (at + s) (putMid at (at + s - at) xs u) ≡ drop s (drop at xs)
+  put-rest = ap (drop (at + s)) (sym (append-assoc (take at xs) u _)) ∙ drop-at (take at xs ++ u) _ (at + s) seam ∙ ap (λ (j : ℕ). drop j (drop at xs)) size
+
+-- ---- the modes of a level, walked one by one
+-- the lists of a walk
+pub record Lists : Type 0 where
+  pub order : List ℕ
+  pub other : List ℕ
+  pub keys : List ℕ
+  pub codes : List ℕ
+  pub sizes : List ℕ
+
+-- after m modes, of a walk that began with other lists
+pub record Walks (e : Closeness) (bytes : List ℕ) (left code found : ℕ) (parts : List ℕ) (l₀ : Lists) (m at : ℕ) (l : Lists) (found′ : ℕ) : Type 0 where
+  pub within : m ≤ length parts
+  pub start : at ≡ total (take m parts)
+  pub orderLong : length (l .order) ≡ length (l₀ .order)
+  pub otherLong : length (l .other) ≡ length (l₀ .other)
+  pub keysLong : length (l .keys) ≡ length (l₀ .keys)
+  pub codesLong : length (l .codes) ≡ length (l₀ .codes)
+  pub sizesLong : length (l .sizes) ≡ length (l₀ .sizes)
+  pub ahead : drop at (l .order) ≡ drop at (l₀ .order)
+  pub walkedSo : Split (walked e (pixelsOf bytes) left code (take m parts) (take at (l₀ .order))) found (l₀ .codes) (l₀ .sizes) (l .codes) (l .sizes)
+      (resting left (take at (l .order)) (take at (l .other))) found′
+
+resting-none : (n : ℕ) → resting n [] [] ≡ []
+resting-none zero = refl
+resting-none (suc n) = resting-none n
+
+module _ (e : Closeness) (bytes : List ℕ) (left code found : ℕ) (parts : List ℕ) (l₀ : Lists) (whole : total parts ≡ length (l₀ .order)) (same : length (l₀ .order) ≡ length (l₀ .other)) where
+  pub walks-none : Walks e bytes left code found parts l₀ 0 0 l₀ found
+  unfolding walked
+  walks-none = record {
+    within = omega arith;
+    start = refl;
+    orderLong = refl;
+    otherLong = refl;
+    keysLong = refl;
+    codesLong = refl;
+    sizesLong = refl;
+    ahead = refl;
+    walkedSo = rw (resting-none left) (split-none found (l₀ .codes) (l₀ .sizes));
+  }
+
+  module _ (m at : ℕ) (l : Lists) (found′ : ℕ) (w : Walks e bytes left code found parts l₀ m at l found′) where
+    pub walks-all : length parts ≤ m → Split (walked e (pixelsOf bytes) left code parts (l₀ .order)) found (l₀ .codes) (l₀ .sizes) (l .codes) (l .sizes) (resting left (l .order) (l .other)) found′
+    walks-all end =
+        let all = take-all m parts end in
+        let over : at ≡ length (l₀ .order) = w .start ∙ ap total all ∙ whole in
+        rw (all, take-all at (l₀ .order) (omega arith), take-all at (l .order) (omega (arith, w .orderLong)), take-all at (l .other) (omega (arith, w .otherLong))) at (w .walkedSo)
+
+    module _ (more : m < length parts) where
+      next-start : at + getD parts m 0 ≡ total (take (m + 1) parts)
+      next-start = ap (λ (j : ℕ). j + getD parts m 0) (w .start) ∙ sym (total-more parts m more)
+
+      pub walks-fit : at + getD parts m 0 ≤ length (l₀ .order)
+      walks-fit = omega (arith, next-start, total-take-le (m + 1) parts)
+
+      pub walks-room : found + length parts * 64 ^ left ≤ 2 ^ 32 → found′ + 64 ^ left ≤ 2 ^ 32
+      walks-room room =
+          let some : m + 1 ≤ length parts = omega arith in
+          omega (
+            arith,
+            w .walkedSo .count,
+            walked-few e (pixelsOf bytes) left code (take m parts) (take at (l₀ .order)),
+            ap (λ (j : ℕ). j * 64 ^ left) (length-take-le m parts (omega arith)),
+            mul-le-mul-right (64 ^ left) some,
+          )
+
+      pub walks-digits : (code + length parts) * 64 ^ left ≤ 2 ^ 20 → (code + m + 1) * 64 ^ left ≤ 2 ^ 20
+      walks-digits digits =
+          let some : code + m + 1 ≤ code + length parts = omega arith in
+          omega (arith, mul-le-mul-right (64 ^ left) some)
+
+      pub walks-in : AllIn (l₀ .order) bytes → AllIn (take (at + getD parts m 0 - at) (drop at (l .order))) bytes
+      walks-in inside i k =
+          let z : at + getD parts m 0 - at ≡ getD parts m 0 = omega arith in
+          let long = length-take-le (at + getD parts m 0 - at) (drop at (l .order)) (omega (arith, walks-fit, w .orderLong, length-drop at (l .order))) in
+          rw (getD-take (at + getD parts m 0 - at) (drop at (l .order)) i 0 (omega arith), w .ahead, getD-drop at (l₀ .order) i 0) (inside (at + i) (omega (arith, walks-fit)))
+
+      -- the next mode split, in parts of the two lists
+      pub walks-more : (u v keys codes sizes : List ℕ) (found″ : ℕ) → length u ≡ length (take (at + getD parts m 0 - at) (drop at (l .order)))
+          → length v ≡ length (take (at + getD parts m 0 - at) (drop at (l .other))) → length keys ≡ length (l .keys) → length codes ≡ length (l .codes) → length sizes ≡ length (l .sizes)
+          → Split (leaves e (pixelsOf bytes) left (code + m) (take (at + getD parts m 0 - at) (drop at (l .order)))) found′ (l .codes) (l .sizes) codes sizes (resting left u v) found″
+          → Walks e bytes left code found parts l₀ (m + 1) (at + getD parts m 0)
+          (record { order = putMid at (at + getD parts m 0 - at) (l .order) u; other = putMid at (at + getD parts m 0 - at) (l .other) v; keys = keys; codes = codes; sizes = sizes }) found″
+      walks-more u v keys codes sizes found″ lu lv lk lc ls r =
+          let s = getD parts m 0 in
+          let xs = l₀ .order in
+          let fit : at + s ≤ length (l .order) = omega (arith, walks-fit, w .orderLong) in
+          let fit′ : at + s ≤ length (l .other) = omega (arith, walks-fit, w .otherLong, same) in
+          let z : at + s - at ≡ s = omega arith in
+          let more′ : take (m + 1) parts ≡ take m parts ++ (s ∷ []) = ap (λ (j : ℕ). take j parts) (add-one m) ∙ take-suc parts m 0 more in
+          let own : take (at + s - at) (drop at (l .order)) ≡ take s (drop at xs) = ap₂ (λ (j : ℕ) (ys : List ℕ). take j ys) z (w .ahead) in
+          let long : length (take s (drop at xs)) ≡ s = ap length (sym own) ∙ part-long at s (l .order) fit in
+          let many : length (take m parts) ≡ m = length-take-le m parts (omega arith) in
+          let leads : total (take m parts) ≡ length (take at xs) = sym (w .start) ∙ sym (length-take-le at xs (omega (arith, walks-fit))) in
+          let all : walked e (pixelsOf bytes) left code (take (m + 1) parts) (take (at + s) xs)
+          ≡ walked e (pixelsOf bytes) left code (take m parts) (take at xs) ++ leaves e (pixelsOf bytes) left (code + m) (take s (drop at xs)) =
+          ap₂ (walked e (pixelsOf bytes) left code) more′ (take-add at s xs) ∙ walked-last e (pixelsOf bytes) left code (take m parts) s (take at xs) (take s (drop at xs)) leads long
+          ∙ ap (λ (j : ℕ). walked e (pixelsOf bytes) left code (take m parts) (take at xs) ++ leaves e (pixelsOf bytes) left (code + j) (take s (drop at xs))) many in
+          let rests : resting left (take (at + s) (putMid at (at + s - at) (l .order) u)) (take (at + s) (putMid at (at + s - at) (l .other) v))
+          ≡ resting left (take at (l .order)) (take at (l .other)) ++ resting left u v =
+          ap₂ (resting left) (put-front at s (l .order) u fit lu) (put-front at s (l .other) v fit′ lv) ∙ resting-both left (take at (l .order)) u (take at (l .other)) v in
+          record {
+            within = omega arith;
+            start = next-start;
+            orderLong = same-len-mid at (at + s - at) (l .order) u lu ∙ w .orderLong;
+            otherLong = same-len-mid at (at + s - at) (l .other) v lv ∙ w .otherLong;
+            keysLong = lk ∙ w .keysLong;
+            codesLong = lc ∙ w .codesLong;
+            sizesLong = ls ∙ w .sizesLong;
+            ahead = put-rest at s (l .order) u fit lu ∙ ap (drop s) (w .ahead) ∙ drop-drop s at xs;
+            walkedSo = rw (all, rests) (split-both _ _ found found′ found″ (l₀ .codes) (l .codes) codes (l₀ .sizes) (l .sizes) sizes _ (resting left u v) (w .walkedSo) (rw own at r));
+          }
+
+-- ---- codes stay small
+pub code-times : (left code : ℕ) → 1 ≤ left → (code + 1) * 64 ^ left ≤ 2 ^ 20 → code * 64 < 2 ^ 20
+code-times left code some h =
+    let more : 64 ≤ 64 ^ left = omega (arith, room-more left some, room-some (left - 1)) in
+    omega (arith, mul-le-mul-left (code + 1) more)
+
+pub code-next : (left code n : ℕ) → (code + n) * 64 ^ left ≤ 2 ^ 20 → code + n ≤ 2 ^ 20
+code-next left code n h = omega (arith, mul-le-mul-left (code + n) (room-some left))

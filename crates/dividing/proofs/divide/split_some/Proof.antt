@@ -1,0 +1,56 @@
+-- `split_some` meets its contract. Assumes nothing.
+use Rattle.dividing.proofs.KindLaws.{some-none, some-some}
+use Prim.Native.Nat.{_-_}
+use mathlib.Core.Path.{_≡_, refl, sym}
+use native.Mathlib.Omega.{arith}
+use borrow.Author.Needs.{needs}
+use lib.ListN.{length}
+use Rattle.dividing.proofs.divide.split_some.Statement.{statement}
+use Rattle.dividing.proofs.divide.split_some.Tie as tie
+
+returns : tie.Need-returns
+returns c =
+    let a = c .before .before .before .before .before .before .before .args in
+    let d = c .before .before .before .before .before .before .before .pre .1 in
+    let z : length (a .order .now) ≡ 0 = omega arith in
+    some-none (a .node .closeness) _ (a .node .left) (a .node .code) (a .node .found) (a .order .now) (a .codes .now) (a .sizes .now) (a .order .now) (a .other .now) z refl (sym (d .0))
+
+split-requires : tie.Need-split-requires
+split-requires c κs =
+    let p = c .before .before .before .before .before .before .before .before .before .before .before .before .pre .0 in
+    let d = c .before .before .before .before .before .before .before .before .before .before .before .before .pre .1 in
+    ((p .0, p .1, p .2, p .3), (d .0, d .1, d .2, d .3, d .4))
+
+same-length : tie.Need-same-length
+same-length c = search needs
+
+same-length-2 : tie.Need-same-length-2
+same-length-2 c = search needs
+
+same-length-3 : tie.Need-same-length-3
+same-length-3 c = search needs
+
+same-length-4 : tie.Need-same-length-4
+same-length-4 c = search needs
+
+same-length-5 : tie.Need-same-length-5
+same-length-5 c = search needs
+
+returns-2 : tie.Need-returns-2
+returns-2 c =
+    let a = c .before .before .before .before .before .before .before .before .before .before .before .before .before .before .before .before .before .before .before .before .before .before .before .args in
+    some-some (a .node .closeness) _ (a .node .left) (a .node .code) (a .node .found) (a .order .now) (a .codes .now) (a .sizes .now) _ _ _ _
+    (c .before .before .before .before .before .before .before .before .before .before .before .before .before .before .before .before .if1 .left) (c .before .before .before .before .before .before .before .before .before .before .split .ensures)
+
+pub split-some-spec : {M : Type 1} → statement M
+split-some-spec =
+    tie.close
+    (tie.spec
+    returns
+    split-requires
+    same-length
+    same-length-2
+    same-length-3
+    same-length-4
+    same-length-5
+    returns-2)

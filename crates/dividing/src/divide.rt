@@ -1,0 +1,86 @@
+// All pixels divided: the greys by intensity, the colours by hue, saturation and intensity.
+use crate::Node;
+use crate::kinds::sort_kinds;
+use crate::levels::split;
+use crate::sorting::copy;
+ghost use mathlib.Core.Path.{_≡_};
+ghost use Prim.Native.Nat.{_≤_, _<_, _*_, _+_, _^_};
+ghost use lib.ListN.{length};
+ghost use Rattle.verdict.specs.Test.{mostCloseness};
+ghost use Rattle.palette.specs.Cards.{pixelsOf};
+ghost use Rattle.palette.specs.Sound.{mostPixels};
+ghost use Rattle.dividing.specs.Splitting.{AllIn, AllColours, resting, Split};
+ghost use Rattle.dividing.specs.Kinds.{leavesSome, PixelsDivided};
+
+// Splits a range, if it has pixels.
+fn split_some(
+    node: Node,
+    pixels: &[u8],
+    order: &mut [u16],
+    other: &mut [u16],
+    keys: &mut [u8],
+    codes: &mut [u32],
+    sizes: &mut [u32],
+) -> usize
+    requires { ⌜ (node .left ≤ 3) × (node .closeness ≤ mostCloseness) × (node .found + 64 ^ node .left ≤ 2 ^ 32) × ((node .code + 1) * 64 ^ node .left ≤ 2 ^ 20) ⌝ }
+    requires { ⌜ (length (now order) ≡ length (now other)) × (length (now order) ≤ length (now keys)) × (length (now order) ≤ mostPixels) × AllIn (now order) (now pixels)
+        × (node .left ≡ 3 → AllColours (now order) (now pixels)) ⌝ }
+    ensures { λ r. ⌜ Split (leavesSome (node .closeness) (pixelsOf (now (pixels .entry))) (node .left) (node .code) (now (order .entry))) (node .found)
+        (now (codes .entry)) (now (sizes .entry)) (now (codes .exit)) (now (sizes .exit)) (resting (node .left) (now (order .exit)) (now (other .exit))) r ⌝ }
+{
+    if order.len() == 0 {
+        return node.found;
+    }
+    split(node, pixels, order, other, keys, codes, sizes)
+}
+
+// Divides the pixels: how many entries there are. Their pixels' numbers are left in `order`, entry by entry; codes and sizes as far as there is room.
+// The greys begin in `order` and the colours in `other`, each with as many places past the numbers of the other kind to be sorted into.
+pub fn divide_pixels(
+    pixels: &[u8],
+    closeness: u32,
+    order: &mut [u16],
+    other: &mut [u16],
+    keys: &mut [u8],
+    codes: &mut [u32],
+    sizes: &mut [u32],
+) -> usize
+    requires { ⌜ (length (now pixels) ≡ 3 * length (now order)) × (length (now order) ≡ length (now other)) × (length (now keys) ≡ length (now order)) × (length (now order) ≤ mostPixels)
+        × (closeness ≤ mostCloseness) ⌝ }
+    ensures { λ r. ⌜ PixelsDivided closeness (pixelsOf (now (pixels .entry))) (now (codes .entry)) (now (sizes .entry)) (now (codes .exit)) (now (sizes .exit)) (now (order .exit)) r ⌝ }
+{
+    let greys = sort_kinds(pixels, order, other);
+    let colours = order.len() - greys;
+    let first = Node {
+        closeness: closeness,
+        left: 1,
+        code: 0,
+        found: 0,
+    };
+    let found = split_some(
+        first,
+        pixels,
+        &mut order[..greys],
+        &mut other[colours..],
+        keys,
+        codes,
+        sizes,
+    );
+    let second = Node {
+        closeness: closeness,
+        left: 3,
+        code: 1,
+        found: found,
+    };
+    let total = split_some(
+        second,
+        pixels,
+        &mut other[..colours],
+        &mut order[greys..],
+        keys,
+        codes,
+        sizes,
+    );
+    copy(&other[colours..], &mut order[..greys]);
+    total
+}

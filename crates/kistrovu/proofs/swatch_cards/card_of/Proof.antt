@@ -1,0 +1,124 @@
+-- `card_of` meets its contract. Assumes nothing.
+use Prim.Native.Nat.{ℕ, _*_, _≤_, _<_}
+use mathlib.Core.Path.{_≡_, refl, sym, ap, _∙_}
+use mathlib.Core.List.{List, _++_}
+use native.Mathlib.Omega.{arith}
+use lib.ListN.{length, take, drop, getD}
+use lib.Seq.{length-take-le, take-at}
+use Rattle.pixel.specs.Ranges.{Bytes}
+use Rattle.palette.specs.Cards.{pixelsOf}
+use Rattle.palette.specs.Sound.{pixelAt}
+use Rattle.palette.proofs.Triples.{pixels-bytes}
+use Rattle.making.specs.Making.{entriesMade}
+use Rattle.making.proofs.Divided.{divided-few, divided-laid, card-made}
+use borrow.Author.Needs.{needs}
+use Rattle.kistrovu.proofs.swatch_cards.card_of.Statement.{statement}
+use Rattle.kistrovu.proofs.swatch_cards.card_of.Tie as tie
+
+abbrev entry : tie.After-divide-pixels → tie.Start
+entry m = m .before .before .before .before .before .before .before .before .before .before .before .before
+
+abbrev numbers : tie.After-divide-pixels → List ℕ
+numbers m = m .divide-pixels .last .1 .1 .0
+
+abbrev codes : tie.After-divide-pixels → List ℕ
+codes m = m .divide-pixels .last .1 .1 .1 .1 .1 .0
+
+abbrev sizes : tie.After-divide-pixels → List ℕ
+sizes m = m .divide-pixels .last .1 .1 .1 .1 .1 .1 .0
+
+long : (m : tie.After-divide-pixels) → length (numbers m) ≡ length (entry m .args .labels .now)
+long m = m .divide-pixels .kept .1 .1 .0 ∙ length-take-le (length (entry m .args .labels .now)) (entry m .args .order .now) (entry m .pre .1 .0)
+
+-- the numbers as they are lent again
+front : (m : tie.After-divide-pixels) → take (length (entry m .args .labels .now)) (numbers m ++ drop (length (entry m .args .labels .now)) (entry m .args .order .now)) ≡ numbers m
+front m = take-at (numbers m) _ (length (entry m .args .labels .now)) (long m)
+
+bytes : (m : tie.After-divide-pixels) (i : ℕ) → Bytes (pixelAt (pixelsOf (entry m .args .pixels .now)) i)
+bytes m = pixels-bytes (entry m .args .pixels .now) (λ j. let known = m .before .before .before .before .before .before .before .before .before .before .before .shared-slice-known .given j in omega arith)
+
+slice-relend-prefix-divide-pixels : tie.Need-slice-relend-prefix-divide-pixels
+slice-relend-prefix-divide-pixels c = search needs
+
+slice-aggregate-divide-pixels : tie.Need-slice-aggregate-divide-pixels
+slice-aggregate-divide-pixels c = let s = c .before .before .before .before .before .before .before in sym (length-take-le (length (s .args .labels .now)) (s .args .order .now) (s .pre .1 .0))
+
+slice-relend-prefix-divide-pixels-2 : tie.Need-slice-relend-prefix-divide-pixels-2
+slice-relend-prefix-divide-pixels-2 c = search needs
+
+slice-aggregate-divide-pixels-2 : tie.Need-slice-aggregate-divide-pixels-2
+slice-aggregate-divide-pixels-2 c = let s = c .before .before .before .before .before .before .before .before in sym (length-take-le (length (s .args .labels .now)) (s .args .other .now) (s .pre .1 .1))
+
+divide-pixels-requires : tie.Need-divide-pixels-requires
+divide-pixels-requires c κs =
+    let a = c .before .before .before .before .before .before .before .before .before .before .before .args in
+    let p = c .before .before .before .before .before .before .before .before .before .before .before .pre in
+    let n = length (a .labels .now) in
+    let x = length-take-le n (a .order .now) (p .1 .0) in
+    let y = length-take-le n (a .other .now) (p .1 .1) in
+    (p .0 .0 ∙ ap (λ (k : ℕ). 3 * k) (sym x), x ∙ sym y, sym x, omega (arith, x, p .0 .1), p .0 .2)
+
+slice-reshare-prefix-finish : tie.Need-slice-reshare-prefix-finish
+slice-reshare-prefix-finish c = search needs
+
+slice-aggregate-finish : tie.Need-slice-aggregate-finish
+slice-aggregate-finish c = let m = c .before .before .before .before .before .before .before .before .before .before .before in sym (ap length (front m) ∙ long m)
+
+finish-requires : tie.Need-finish-requires
+finish-requires c κs =
+    let m = c .before .before .before .before .before .before .before .before .before .before .before .before .before .before in
+    let a = entry m .args in
+    let p = entry m .pre in
+    let ps = pixelsOf (a .pixels .now) in
+    let d = m .divide-pixels in
+    let bins = d .kept .1 .1 .1 .1 .0 in
+    rw (front m) (
+      omega (arith, divided-few (a .closeness) ps (bytes m) (a .codes .now) (a .sizes .now) (codes m) (sizes m) (numbers m) (d .result) (d .ensures), long m, p .0 .1),
+      λ few. divided-laid (a .closeness) ps (bytes m) (a .codes .now) (a .sizes .now) (codes m) (sizes m) (numbers m) (d .result) (d .ensures) few (p .1 .2) (p .1 .3)
+          (a .pixels .now) (d .last .1 .1 .1 .1 .0) refl (p .0 .0 ∙ ap (λ (k : ℕ). 3 * k) (sym bins)) (omega (arith, bins, p .0 .1)) (long m ∙ sym bins)
+          (d .kept .1 .1 .1 .1 .1 .0 ∙ p .1 .2) (d .kept .1 .1 .1 .1 .1 .1 .0 ∙ p .1 .3),
+    )
+
+same-length : tie.Need-same-length
+same-length c = search needs
+
+same-length-2 : tie.Need-same-length-2
+same-length-2 c = search needs
+
+same-length-3 : tie.Need-same-length-3
+same-length-3 c = search needs
+
+same-length-4 : tie.Need-same-length-4
+same-length-4 c = search needs
+
+same-length-5 : tie.Need-same-length-5
+same-length-5 c = search needs
+
+returns : tie.Need-returns
+returns c =
+    let m = c .before .before .before .before .before .before .before .before .before .before .before .before .before .before .before .before .before in
+    let a = entry m .args in
+    let p = entry m .pre in
+    let ps = pixelsOf (a .pixels .now) in
+    let d = m .divide-pixels in
+    c .before .before .finish .ensures .0 ∙ ap (λ (xs : List ℕ). entriesMade (d .result) (codes m) (sizes m) xs ps) (front m)
+    ∙ card-made (a .closeness) ps (bytes m) (a .codes .now) (a .sizes .now) (codes m) (sizes m) (numbers m) (d .result) (d .ensures) (p .1 .2) (p .1 .3)
+
+pub card-of-spec : {M : Type 1} → statement M
+card-of-spec =
+    tie.close
+    (tie.spec
+    slice-relend-prefix-divide-pixels
+    slice-aggregate-divide-pixels
+    slice-relend-prefix-divide-pixels-2
+    slice-aggregate-divide-pixels-2
+    divide-pixels-requires
+    slice-reshare-prefix-finish
+    slice-aggregate-finish
+    finish-requires
+    same-length
+    same-length-2
+    same-length-3
+    same-length-4
+    same-length-5
+    returns)
