@@ -4,7 +4,7 @@ use crate::kinds::sort_kinds;
 use crate::levels::split;
 use crate::sorting::copy;
 ghost use mathlib.Core.Path.{_≡_};
-ghost use Prim.Native.Nat.{_≤_, _<_, _*_, _+_, _^_};
+ghost use Prim.Native.Nat.{_≤_, _*_, _+_, _^_};
 ghost use lib.ListN.{length};
 ghost use Rattle.verdict.specs.Test.{mostCloseness};
 ghost use Rattle.palette.specs.Cards.{pixelsOf};

@@ -1,6 +1,4 @@
 -- `pixel::is_grey` meets its contract. Assumes nothing.
-use mathlib.Core.Path.{ap}
-use lib.Dec.{leb}
 use borrow.Author.Needs.{needs}
 use Rattle.pixel.specs.Colour.{isGrey}
 use Rattle.pixel.proofs.is_grey.Statement.{statement}

@@ -1,6 +1,5 @@
 -- `split_some` meets its contract. Assumes nothing.
 use Rattle.dividing.proofs.KindLaws.{some-none, some-some}
-use Prim.Native.Nat.{_-_}
 use mathlib.Core.Path.{_≡_, refl, sym}
 use native.Mathlib.Omega.{arith}
 use borrow.Author.Needs.{needs}
