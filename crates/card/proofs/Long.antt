@@ -7,10 +7,10 @@ use Rattle.kistrovu.specs.declared.Printed.{Printed}
 use Rattle.kistrovu.specs.Grounds.{textNumber}
 use Rattle.kistrovu.specs.Answers.{printedAnswer}
 use Rattle.kistrovu.proofs.Texts.{long-text-printed}
-use Rattle.card.specs.Program.{programAnswer, LongInput}
+use Rattle.card.specs.Program.{mostRead, programAnswer, LongInput}
 
 pub long-text-answered : LongInput
-unfolding programAnswer printedAnswer
+unfolding mostRead programAnswer printedAnswer
 long-text-answered text l =
     let same = long-text-printed text l in
     let number : textNumber (take (suc longestSwatch) text) ≡ textNumber text = ap (λ (p : Printed). p .number) same in

@@ -8,13 +8,17 @@ use Rattle.kistrovu.specs.declared.Printed.{Printed}
 use Rattle.kistrovu.specs.Grounds.{textNumber}
 use Rattle.kistrovu.specs.Answers.{served, printedAnswer, groundAnswer}
 
--- the card of the text if it is served, else the line of its ground (X7)
+-- X7: the card of the text if it is served, else the line of its ground
 unfoldable pub programAnswer : List ℕ → Printed
 programAnswer text = served (textNumber text) (printedAnswer text) (groundAnswer (textNumber text))
 
--- the program reads one byte more than the longest swatch has, and no further: the rest of a text does not matter (X8). Proved in proofs/Long
+-- X8: how many bytes of a text the program reads: one more than the longest swatch has
+unfoldable pub mostRead : ℕ
+mostRead = suc longestSwatch
+
+-- X8: the rest of a text does not matter. Proved in proofs/Long
 abbrev pub LongInput : Type 0
-LongInput = (text : List ℕ) → longestSwatch < length text → programAnswer (take (suc longestSwatch) text) ≡ programAnswer text
+LongInput = (text : List ℕ) → longestSwatch < length text → programAnswer (take mostRead text) ≡ programAnswer text
 
 -- there is a place for every byte to print
 abbrev pub HasRoom : Printed → Type 0

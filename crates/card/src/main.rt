@@ -11,7 +11,7 @@ ghost use mathlib.Core.Path.{_≡_};
 ghost use Prim.Native.Nat.{_≤_};
 ghost use lib.ListN.{length};
 ghost use Rattle.io.specs.Counts.{Counts};
-ghost use Rattle.card.specs.Program.{programAnswer, HasRoom};
+ghost use Rattle.card.specs.Program.{mostRead, programAnswer, HasRoom};
 
 // One byte more than the longest swatch. A longer text gets the same number as these bytes alone.
 const MOST_TEXT: usize = LONGEST_SWATCH + 1;
@@ -43,6 +43,7 @@ fn read_some(room: &mut [u8]) -> Input
 
 // Reads until the text ends or `text` is full.
 fn read_text(text: &mut [u8]) -> Input
+    requires { ⌜ length (now text) ≡ mostRead ⌝ }
     ensures { λ r. ⌜ Counts (r .len) (now (text .exit)) ⌝ }
 {
     let mut len = 0;

@@ -9,7 +9,8 @@ use Rattle.lists.proofs.Cases.{by-cond}
 use Rattle.swatch.specs.Output.{printedLine, printedMost}
 use Rattle.kistrovu.specs.Grounds.{textNumber}
 use Rattle.kistrovu.specs.Answers.{printed, printedBytes, printedAnswer, groundAnswer}
-use Rattle.card.specs.Program.{programAnswer, HasRoom}
+use Rattle.swatch.specs.Reading.{longestSwatch, mostSwatchPixels}
+use Rattle.card.specs.Program.{mostRead, programAnswer, HasRoom}
 use borrow.Author.Needs.{needs}
 use Rattle.card.proofs.main.Statement.{statement}
 use Rattle.card.proofs.main.Tie as tie
@@ -28,6 +29,7 @@ slice-aggregate-read-text : tie.Need-slice-aggregate-read-text
 slice-aggregate-read-text c = search needs
 
 read-text-requires : tie.Need-read-text-requires
+unfolding mostRead longestSwatch mostSwatchPixels
 read-text-requires c κs = search needs
 
 slice-aggregate-fail : tie.Need-slice-aggregate-fail
