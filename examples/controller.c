@@ -16,7 +16,7 @@
 /* Exit statuses that are not grounds. */
 enum { WRONG_USE = 64, WRONG_LIBRARY = 70, NOT_READ_OR_WRITTEN = 74 };
 
-/* The columns of a swatch. A line is 12 characters and a line feed: two fields in the header, three for a pixel. */
+/* The columns of a swatch. A line has 12 columns and a line feed: two fields in the header, three for a pixel. */
 enum { LINE = 13, HEADER_FIELD = 6, PIXEL_FIELD = 4 };
 
 /* One byte more than the longest swatch, 13 * (1 + 16,384) + 1 = 213,006. A text that fills it is too long, and the call

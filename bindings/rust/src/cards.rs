@@ -38,7 +38,8 @@ pub struct Entry {
     pub count: u32,
 }
 
-/// The entries of a card, a slice of 1 to 255: greys by mode, then colours by hue, saturation and intensity mode.
+/// The entries of a card, a slice of 1 to 255: greys in the order of their modes, then colours in that of hue, saturation
+/// and intensity mode.
 #[derive(Clone, Copy, PartialEq, Eq)]
 pub struct Entries {
     len: usize,
@@ -63,7 +64,8 @@ impl fmt::Debug for Entries {
 #[cfg(feature = "alloc")]
 #[derive(Clone, Debug, PartialEq, Eq)]
 pub struct Card {
-    /// The entries, 1 to 255: greys by mode, then colours by hue, saturation and intensity mode.
+    /// The entries, 1 to 255: greys in the order of their modes, then colours in that of hue, saturation and intensity
+    /// mode.
     pub entries: Vec<Entry>,
     /// For each pixel the number of its entry, from 0.
     pub labels: Vec<u8>,

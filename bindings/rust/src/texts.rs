@@ -29,7 +29,7 @@ impl fmt::Debug for Printed {
 /// The card of a swatch, both as text, at closeness 0. The thread needs 1 MB of stack. Grounds:
 /// [`Header`](Ground::Header), [`Size`](Ground::Size), [`Lines`](Ground::Lines), [`Entries`](Ground::Entries).
 ///
-/// Every line of a swatch is 12 characters and a line feed: first the width and the height, 6 columns each, then for each
+/// A line of a swatch has 12 columns and a line feed: first the width and the height, 6 columns each, then for each
 /// pixel R, G and B, 4 columns each. The lines of a card have fields of 6 columns: entries, pixels and closeness; then for
 /// each entry its kind, the numbers of its hue, saturation and intensity mode, mean R, G, B, and its count.
 ///

@@ -17,7 +17,7 @@ use Rattle.lists.proofs.Tabled.{table-is}
 use Rattle.pixel.specs.declared.Pixel.{Pixel}
 use Rattle.pixel.specs.Ranges.{Bytes}
 use Rattle.verdict.specs.Test.{Closeness}
-use Rattle.palette.specs.Levels.{Level, hue, saturation, binCount, binOf, histogram, modesAt, liesIn}
+use Rattle.palette.specs.Levels.{Level, binCount, binOf, histogram, modesAt, liesIn}
 use Rattle.palette.specs.Cards.{Branch, members, histogramIn, modesFound, inChild, child, divide}
 use Rattle.palette.specs.Sound.{pixelAt}
 use Rattle.palette.proofs.LevelBins.{bin-below, bin-in-one-mode}

@@ -38,6 +38,7 @@ module _ (e : Closeness) (bytes : List ℕ) (r : Card) (labels : List ℕ) where
     pub one : ExactlyOne (r .len) (λ n. countsUnder e (pixelsOf bytes) (entryAt (r .entries) n) (pixelAt (pixelsOf bytes) i))
     pub label : getD labels i 0 ≡ one .number
 
+  -- D3 of the whole card
   pub record SoundAnswer : Type 0 where
     -- every histogram of the card is sound: of the greys, and of the colours
     pub greys : 0 < length (members (pixelsOf bytes) allGreys) → AllSound e (pixelsOf bytes) greyLevels allGreys

@@ -1,4 +1,4 @@
--- The statements of `specs/Best.antt`: every fit is pooled, its blocks are the only ones, and a decreasing fit is the mirror image. Assumes nothing.
+-- The statements of `specs/Best.antt`: every fit is pooled, its blocks are the only ones, and decreasing is increasing mirrored. Assumes nothing.
 use mathlib.Core.Path.{_≡_, refl, sym, _∙_, ap}
 use mathlib.Core.List.{List, [], _∷_, reverse, reverseAux}
 use Prim.Native.Nat.{ℕ, _<_}

@@ -36,7 +36,7 @@ pub record Comparable (f y : List Fraction) : Type 0 where
   pub left : CommonDenominator denominator f
   pub right : CommonDenominator denominator y
 
--- P6: any two sequences have one; proved in proofs/Always
+-- P6: any two sequences have one; proved in proofs/Unique
 abbrev pub DenominatorExists : Type 0
 DenominatorExists = (f y : List Fraction) → Proper f → Proper y → Comparable f y
 

@@ -26,7 +26,7 @@ guards =
     ∷ fit decreasing (2 ∷ 2 ∷ []) (block 4 2 ∷ block 4 2 ∷ [])
     -- after a merge the fit looks further back
     ∷ fit increasing (1 ∷ 2 ∷ 3 ∷ 0 ∷ []) (block 1 1 ∷ block 5 3 ∷ block 5 3 ∷ block 5 3 ∷ [])
-    -- a decreasing fit is the mirror image
+    -- decreasing: the same from the other end
     ∷ fit decreasing (0 ∷ 3 ∷ 2 ∷ 1 ∷ []) (block 5 3 ∷ block 5 3 ∷ block 5 3 ∷ block 1 1 ∷ [])
     -- in one block B is its length, not its length squared
     ∷ mass increasing (4 ∷ 2 ∷ 1 ∷ []) 0 1 14 3
@@ -41,7 +41,7 @@ guards =
     ∷ verdict 1 increasing (0 ∷ 0 ∷ 2 ∷ 0 ∷ 0 ∷ 0 ∷ 0 ∷ 0 ∷ []) (negsuc 16777215) false
     -- a stretch that is monotone in the tested direction costs minus the bar
     ∷ verdict 0 increasing (1 ∷ 2 ∷ 2 ∷ []) (negsuc 43368473) false
-    -- a stretch of one bin is never rejected, whatever its cost
+    -- one bin is never rejected, even at a cost of 0
     ∷ verdict 0 increasing (5 ∷ []) (pos 0) false
     -- the first bin of a run of equal bins
     ∷ line 0 (3 ∷ 0 ∷ 0 ∷ 3 ∷ []) (0 ∷ 1 ∷ 3 ∷ [])
@@ -64,7 +64,7 @@ guards =
     ∷ modes 0 (0 ∷ 5 ∷ 0 ∷ 5 ∷ 0 ∷ 5 ∷ 0 ∷ []) (mode 0 1 6 ∷ [])
     -- after a join the search starts again with runs of 2
     ∷ line 0 (5 ∷ 0 ∷ 5 ∷ 0 ∷ 5 ∷ 0 ∷ 5 ∷ []) (0 ∷ 6 ∷ [])
-    -- the last mode takes the last bin, and ends there
+    -- the last bin of a line lies in its last mode, and no bin after it
     ∷ inLine 0 (1 ∷ 0 ∷ 4 ∷ []) 0 2 true
     ∷ inLine 0 (1 ∷ 0 ∷ 4 ∷ []) 0 3 false
     -- a ring opened away from bin 0, at the first of equal lowest bins; separators by its own numbers, modes from the opening

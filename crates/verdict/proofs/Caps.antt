@@ -19,7 +19,7 @@ use Rattle.pooling.specs.declared.Block.{Block}
 use Rattle.pooling.specs.declared.Place.{Place}
 use Rattle.pooling.specs.Blocks.{Direction, blocks}
 use Rattle.pooling.proofs.Laws.{blocks-cut}
-use Rattle.verdict.specs.Test.{Closeness, mostCloseness, fittedMass, weight, partWeight, largestWeight, bar, cost}
+use Rattle.verdict.specs.Test.{Closeness, mostCloseness, fittedMass, partWeight, largestWeight, bar, cost}
 use Rattle.verdict.specs.Scratch.{Small, PlacesHeld, Capped, Attained, BestOf, EndingAt, firstOf, endOf, Turn, Part}
 use Rattle.verdict.proofs.Machine.{difference-fits}
 use Rattle.verdict.proofs.Range.{in-range}

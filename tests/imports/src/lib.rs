@@ -99,10 +99,28 @@ fn signs(name: &str) -> Vec<&str> {
     name.split('_').filter(|sign| !sign.is_empty()).collect()
 }
 
-/// The words of a line. Brackets, commas and stops part words; an empty list is a word.
+/// The words of a line. Brackets, commas and stops part words; an empty list is a word. What follows a stop at once is a
+/// field, and so is what an equals sign follows at the beginning of a line, after a brace or after a semicolon: neither is
+/// the use of a name.
 fn words(line: &str) -> Vec<&str> {
     let apart = |c: char| c.is_whitespace() || "(){}[],;.:⟦⟧⌜⌝«»".contains(c);
-    let mut found: Vec<&str> = line.split(apart).filter(|word| !word.is_empty()).collect();
+    let mut found = Vec::new();
+    let mut at = 0;
+    for word in line.split(apart) {
+        let before = &line[..at];
+        let after = line[at + word.len()..].trim_start();
+        let given = after.starts_with('=')
+            && before
+                .trim_end()
+                .chars()
+                .last()
+                .map_or(true, |c| "{;".contains(c));
+        if !word.is_empty() && !before.ends_with('.') && !given {
+            found.push(word);
+        }
+        at += word.len();
+        at += line[at..].chars().next().map_or(0, char::len_utf8);
+    }
     if line.contains("[]") {
         found.push("[]");
     }

@@ -48,6 +48,12 @@ fn names_in_antt() {
 }
 
 #[test]
+fn fields_are_not_names() {
+    let text = "use a.B.{first, second, third, fourth}\n\nf c = record { first = c .second; third = fourth; }\n";
+    assert_eq!(unused(Language::Antt, text), ["first", "second", "third"]);
+}
+
+#[test]
 fn names_in_rattle() {
     let text = "use a::Wide;\nuse b::c;\nghost use d.E.{\n  total,\n  _<_,\n};\nghost use d.Blocks as Blocks;\npub use e::kept;\n\n// Wide\nfn f(x: u8)\n    requires { ⌜ total x ≤ Blocks.push ⌝ }\n{ c::g(x) }\n";
     assert_eq!(unused(Language::Rattle, text), ["Wide", "_<_"]);

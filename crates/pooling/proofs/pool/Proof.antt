@@ -6,7 +6,7 @@ use borrow.Author.Needs.{needs}
 use native.Mathlib.Omega.{arith}
 use lib.ListN.{length, take}
 use lib.Seq.{take-all}
-use Rattle.pooling.specs.Blocks.{direction, push, pushAll}
+use Rattle.pooling.specs.Blocks.{direction, pushAll}
 use Rattle.pooling.specs.Stack.{stackOf}
 use Rattle.pooling.proofs.Stacking.{push-all-more, push-room}
 use Rattle.pooling.proofs.pool.Statement.{statement}
