@@ -9,6 +9,7 @@ use lib.Seq.{take-append-seam}
 use native.Mathlib.Omega.{arith}
 use native.Mathlib.Nat.{div-add-mod}
 use borrow.Author.Tests.{ltb-false, eqb-true, ne-eqb, lt-ltb, le-ltb, lt-leb, le-leb}
+use Rattle.lists.proofs.Connectives.{both-false}
 use Rattle.lists.specs.Lists.{padded}
 use Rattle.pixel.specs.declared.Pixel.{Pixel}
 use Rattle.verdict.specs.Test.{Closeness, mostCloseness}
@@ -22,7 +23,7 @@ use Rattle.kistrovu.specs.declared.Card.{Card}
 use Rattle.kistrovu.specs.Grounds.{firstGround, badBytes, manyPixels, badCloseness, badLabels, manyEntries, askedNumber, cardNumber}
 use Rattle.kistrovu.specs.Answers.{servedEntries, cardAnswer, labelList}
 use Rattle.kistrovu.specs.Facts.{SoundAnswer, CardAgain}
-use Rattle.kistrovu.proofs.Served.{ground-none, grounds-served, grounds-turned-down, neither}
+use Rattle.kistrovu.proofs.Served.{ground-none, grounds-served, grounds-turned-down}
 
 abbrev pub made : ℕ → ℕ → List Entry → Card
 made n len es = record { number = n; len = len; entries = es }
@@ -55,7 +56,7 @@ module _ (e : Closeness) (bytes : List ℕ) (places : ℕ) where
       let b = ground-none (manyPixels bytes) (badCloseness e ∷ badLabels bytes places ∷ []) (omega arith) (a .1) in
       let c = ground-none (badCloseness e) (badLabels bytes places ∷ []) (omega arith) (b .1) in
       let d = ground-none (badLabels bytes places) [] (omega arith) (c .1) in
-      let rest = ltb-false 0 (length bytes % 3) (neither (eqb (length bytes) 0) (ltb 0 (length bytes % 3)) (a .0) .1) in
+      let rest = ltb-false 0 (length bytes % 3) (both-false (eqb (length bytes) 0) (ltb 0 (length bytes % 3)) (a .0) .1) in
       let same : places ≡ length bytes / 3 = eqb-true places (length bytes / 3) (unlike (eqb places (length bytes / 3)) (d .0)) in
       record {
         threes = omega (arith, div-add-mod (length bytes) 3, rest, same);

@@ -1,13 +1,14 @@
 -- What a call's number says: if a call is served, no ground holds; a later ground is tested only if none of the earlier ones holds. Assumes nothing.
 use Prim.Native.Nat.{ℕ, _≤_, _<_}
 use mathlib.Core.Path.{_≡_, refl, sym, _∙_}
-use mathlib.Core.Bool.{Bool, true, false, _||_, false≢true}
+use mathlib.Core.Bool.{Bool, true, false}
 use mathlib.Core.List.{List, [], _∷_, _++_}
 use lib.Dec.{ltb}
 use lib.ListN.{length}
 use native.Mathlib.Omega.{arith}
 use native.Mathlib.Decide.{ℕ-discrete}
 use borrow.Author.Tests.{ltb-false}
+use Rattle.lists.proofs.Connectives.{both-false}
 use Rattle.lists.specs.Lists.{total}
 use Rattle.verdict.specs.Test.{Closeness, mostCloseness}
 use Rattle.kistrovu.specs.Grounds.{Ground, firstGround, badLength, largeSum, badCloseness, fewPlaces, fitNumber, verdictNumber, modesNumber}
@@ -56,16 +57,12 @@ pub record Accepted (h : List ℕ) : Type 0 where
   pub bins : length h ≤ 256
   pub counts : total h ≤ 65536
 
-pub neither : (a b : Bool) → a || b ≡ false → (a ≡ false) × (b ≡ false)
-neither true b e = absurd (false≢true (sym e))
-neither false b e = (refl, e)
-
 pub fit-served : (h : List ℕ) → fitNumber h ≡ 0 → Accepted h
 unfolding fitNumber
 fit-served h e =
     let a = ground-none (badLength h) (largeSum h ∷ []) (omega arith) e in
     let b = ground-none (largeSum h) [] (omega arith) (a .1) in
-    let n = neither (ltb (length h) 2) (ltb 256 (length h)) (a .0) in
+    let n = both-false (ltb (length h) 2) (ltb 256 (length h)) (a .0) in
     record { some = ltb-false _ _ (n .0); bins = ltb-false _ _ (n .1); counts = ltb-false _ _ (b .0) }
 
 module _ (e : Closeness) (h : List ℕ) where

@@ -11,6 +11,7 @@ use Rattle.pixel.specs.declared.Pixel.{Pixel}
 use Rattle.verdict.specs.Test.{Closeness}
 use Rattle.lists.specs.Lists.{missing, over}
 use Rattle.lists.proofs.Cases.{by-cond}
+use Rattle.lists.proofs.Connectives.{both-false}
 use Rattle.making.specs.declared.CardEntries.{CardEntries}
 use Rattle.making.specs.Making.{cardEntries}
 use Rattle.palette.specs.Cards.{pixelsOf, entries, mostEntries}
@@ -19,13 +20,14 @@ use Rattle.swatch.specs.declared.Reading.{Reading}
 use Rattle.swatch.specs.Reading.{mostSwatchPixels, badSize, swatchNumber, readingOf, longestSwatch}
 use Rattle.swatch.specs.Output.{printedCard, printedMost}
 use Rattle.swatch.proofs.PrintedLengths.{printed-fits}
+use Rattle.swatch.specs.Written.{writtenSwatch}
 use Rattle.swatch.proofs.Long.{long-text}
+use Rattle.swatch.proofs.SwatchRead.{swatch-read}
 use Rattle.kistrovu.specs.declared.printing.Outcome.{Outcome}
 use Rattle.kistrovu.specs.Grounds.{firstGround, programCloseness, textNumber}
 use Rattle.kistrovu.specs.Answers.{printed, printedBytes, printedAnswer}
-use Rattle.kistrovu.specs.Facts.{LongText, PrintedFits}
+use Rattle.kistrovu.specs.Facts.{LongText, PrintedFits, WrittenServed}
 use Rattle.kistrovu.specs.Texts.{PixelsPrinted, TextPrinted}
-use Rattle.kistrovu.proofs.Served.{neither}
 use Rattle.kistrovu.proofs.Cards.{take-padded}
 
 -- ---- the number of a text
@@ -51,7 +53,7 @@ swatch-few text z = go (missing (headerOf text)) (badSize (sizeOf text)) (missin
     go true b c q y = absurd (omega (arith, y))
     go false true c q y = absurd (omega (arith, y))
     go false false true q y = absurd (omega (arith, y))
-    go false false false q y = ltb-false mostSwatchPixels (sizeOf text) (neither (eqb (sizeOf text) 0) (ltb mostSwatchPixels (sizeOf text)) q .1)
+    go false false false q y = ltb-false mostSwatchPixels (sizeOf text) (both-false (eqb (sizeOf text) 0) (ltb mostSwatchPixels (sizeOf text)) q .1)
 
 -- ---- what is printed
 -- nothing, and the buffer stays, where the reading of the text turns it down
@@ -119,3 +121,13 @@ long-text-printed text l =
     let same : swatchNumber (take (suc longestSwatch) text) ≡ swatchNumber text = ap (λ (x : Reading). x .number) (r .0) in
     refused-answer (take (suc longestSwatch) text) (λ z. absurd (omega (arith, z, same, r .1))) ∙ ap (λ (n : ℕ). printedBytes n []) same
     ∙ sym (refused-answer text (λ z. absurd (omega (arith, z, r .1))))
+
+-- ---- a swatch that is written in its form
+pub written-served : WrittenServed
+unfolding many printed
+written-served width height ps m =
+    let read = swatch-read width height ps m in
+    record {
+      number = text-number (writtenSwatch width height ps) ∙ rw (read .accepted, read .pixels) refl;
+      card = λ z. rw (z, read .pixels) refl;
+    }

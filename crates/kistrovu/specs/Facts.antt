@@ -1,21 +1,24 @@
 -- What holds besides the equations: for a served call (D2 and D3), for a ring call's list, for a card made twice, and for the program's text. Assumes nothing.
 use Prim.Native.Nat.{ℕ, suc, _≤_, _<_}
 use mathlib.Core.Path.{_≡_}
+use mathlib.Core.Bool.{cond}
 use mathlib.Core.List.{List, map}
-use lib.Dec.{eqb}
+use lib.Dec.{ltb, eqb}
 use lib.ListN.{length, take, getD}
 use Rattle.lists.specs.Lists.{over, total, countIf, ExactlyOne}
 use Rattle.verdict.specs.Test.{Closeness}
 use Rattle.segmentation.specs.Finished.{ListsOnce}
+use Rattle.pixel.specs.declared.Pixel.{Pixel}
 use Rattle.palette.specs.declared.Entry.{Entry}
 use Rattle.palette.specs.Levels.{greyLevels, colourLevels}
-use Rattle.palette.specs.Cards.{allGreys, allColours, members, pixelsOf}
+use Rattle.palette.specs.Cards.{allGreys, allColours, members, entries, mostEntries, pixelsOf}
 use Rattle.palette.specs.Sound.{pixelAt, entryAt, countsUnder, AllSound}
 use Rattle.swatch.specs.Reading.{longestSwatch}
-use Rattle.swatch.specs.Output.{printedMost}
+use Rattle.swatch.specs.Output.{printedCard, printedMost}
+use Rattle.swatch.specs.Written.{writtenSwatch, MakesSwatch}
 use Rattle.kistrovu.specs.declared.ModesAnswer.{ModesAnswer}
 use Rattle.kistrovu.specs.declared.Card.{Card}
-use Rattle.kistrovu.specs.Grounds.{modesNumber, cardNumber}
+use Rattle.kistrovu.specs.Grounds.{modesNumber, cardNumber, programCloseness, textNumber}
 use Rattle.kistrovu.specs.Answers.{cardAnswer, labelList, printed, printedAnswer}
 
 -- D2 and D3: P holds if the call is served, that is, if its number n is 0
@@ -63,3 +66,13 @@ LongText = (text : List ℕ) → longestSwatch < length text → printedAnswer (
 -- there is room for everything that is printed. Proved in proofs/Texts
 abbrev pub PrintedFits : Type 0
 PrintedFits = (text : List ℕ) → length (printed text) ≤ printedMost
+
+-- X3 and X4: a swatch that is written in this form is never turned down for its text, but only for too many entries (G11); otherwise its card is printed
+pub record SwatchAnswered (width height : ℕ) (ps : List Pixel) : Type 0 where
+  pub number : textNumber (writtenSwatch width height ps) ≡ cond (ltb mostEntries (length (entries programCloseness ps))) 11 0
+  pub card : IfServed (textNumber (writtenSwatch width height ps))
+      (printed (writtenSwatch width height ps) ≡ printedCard (length ps) programCloseness (entries programCloseness ps))
+
+-- proved in proofs/Texts
+abbrev pub WrittenServed : Type 0
+WrittenServed = (width height : ℕ) (ps : List Pixel) → MakesSwatch width height ps → SwatchAnswered width height ps
