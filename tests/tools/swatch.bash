@@ -101,7 +101,7 @@ sizes() {
     for size in '129 128' '16385 1' '99999999999 99999999999'; do
         try tools/swatch <<<"P5 $size 255 "
         check "$size is too large, and the message has ImageMagick's command" ends 1 "convert - -sample '16384@>' -depth 8 ppm:- |"
-        check "$size is too large, and the message has netpbm's command" ends 1 'pamscale -nomix -pixels 16000 - |'
+        check "$size is too large, and the message has netpbm's command" ends 1 'pamscale -nomix -pixels 12000 - |'
     done
 }
 
@@ -135,13 +135,13 @@ is_image_magick() {
 
 pipelines() {
     local size
-    for size in '4000 3000' '1001 999' '4000 3' '129 128' '181 91' '3 9000' '40 30'; do
-        if command -v pamscale >/dev/null; then check "pamscale, $size" scaled "$size" pamscale -nomix -pixels 16000; fi
+    for size in '4000 3000' '1001 999' '5000 7' '4000 3' '129 128' '181 91' '3 9000' '40 30'; do
+        if command -v pamscale >/dev/null; then check "pamscale, $size" scaled "$size" pamscale -nomix -pixels 12000; fi
         if is_image_magick; then check "convert, $size" scaled "$size" convert - -sample '16384@>' -depth 8 ppm:-; fi
     done
     is_image_magick || echo "not run: scans scaled by ImageMagick, it is not installed"
     if command -v pamscale >/dev/null && command -v pnmtopng >/dev/null; then
-        try tools/swatch < <(binary_of examples/ikat.swatch | pnmtopng 2>"$work/scaling" | pngtopnm | pamscale -nomix -pixels 16000)
+        try tools/swatch < <(binary_of examples/ikat.swatch | pnmtopng 2>"$work/scaling" | pngtopnm | pamscale -nomix -pixels 12000)
         check "an example as a PNG and back" cmp -s "$work/out" examples/ikat.swatch
     else
         echo "not run: scans scaled by netpbm, it is not installed"
