@@ -33,7 +33,6 @@ ghost use Rattle.kistrovu.specs.Facts.{IfServed, RingList, SoundAnswer};
 
 mod grounds;
 mod printing;
-mod swatch_cards;
 
 // 10,000 · major + 100 · minor + patch. Its source is the file VERSION; tools/version writes it here.
 const VERSION: u32 = 20000;

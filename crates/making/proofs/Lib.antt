@@ -1,4 +1,6 @@
 mod Digits
 mod Gathered
+mod Laid
 mod Made
-pub mod Divided
+mod Labelled
+mod Divided

@@ -2,16 +2,16 @@
 use Prim.Native.Nat.{ℕ, zero, suc, _+_, _*_, _/_, _%_, _^_, _≤_, _<_}
 use mathlib.Core.Path.{_≡_}
 use mathlib.Core.Bool.{Bool, cond}
-use mathlib.Core.List.{List, [], _∷_, map}
+use mathlib.Core.List.{List, [], _∷_, map, flatMap}
 use lib.Dec.{leb}
 use lib.ListN.{length, take, drop, getD, set}
 use Rattle.lists.specs.Lists.{total, numbers, padded}
 use Rattle.pixel.specs.declared.Pixel.{Pixel}
 use Rattle.verdict.specs.Test.{Closeness}
 use Rattle.palette.specs.declared.Entry.{Entry}
-use Rattle.palette.specs.Cards.{entries, labels, mostEntries, noEntry}
+use Rattle.palette.specs.Cards.{branches, entries, labels, mostEntries, noEntry}
 use Rattle.palette.specs.Sound.{pixelAt, mostPixels}
-use Rattle.dividing.specs.Splitting.{AllIn}
+use Rattle.dividing.specs.Splitting.{AllIn, numbersOf}
 use Rattle.making.specs.declared.CardEntries.{CardEntries}
 use Rattle.making.specs.declared.Sums.{Sums}
 
@@ -56,25 +56,30 @@ unfoldable pub labelsBy : (sizes xs : List ℕ) → ℕ → List ℕ → List �
 labelsBy sizes xs zero lent = lent
 labelsBy sizes xs (suc k) lent = labelled k (rangeOf sizes xs k) (labelsBy sizes xs k lent)
 
--- what making n entries relies on
-pub record RangesLaid (bytes xs codes sizes labels : List ℕ) (n : ℕ) : Type 0 where
-  pub pixels : length bytes ≡ 3 * length labels
-  pub many : length labels ≤ mostPixels
-  pub numbered : length xs ≡ length labels
-  pub inside : AllIn xs bytes
+-- the first n sizes, which a card may hold, are those of ranges that lie among the numbers
+pub record RangesLaid (xs sizes : List ℕ) (n : ℕ) : Type 0 where
   pub few : n ≤ mostEntries
-  pub coded : n ≤ length codes
   pub sized : n ≤ length sizes
-  pub small : (k : ℕ) → k < n → getD codes k 0 < 2 ^ 19
-  pub filled : (k : ℕ) → k < n → 0 < getD sizes k 0
   pub whole : total (take n sizes) ≤ length xs
 
--- the entries where a card may hold so many, and the labels as they are left
+-- what making n entries relies on
+pub record FiguresLaid (bytes xs codes sizes : List ℕ) (n : ℕ) : Type 0 where
+  pub ranges : RangesLaid xs sizes n
+  pub many : length xs ≤ mostPixels
+  pub inside : AllIn xs bytes
+  pub coded : n ≤ length codes
+  pub small : (k : ℕ) → k < n → getD codes k 0 < 2 ^ 19
+  pub filled : (k : ℕ) → k < n → 0 < getD sizes k 0
+
+-- the numbers of the pixels branch by branch, and how many each of the n branches has
+pub record BranchesLaid (e : Closeness) (ps : List Pixel) (xs sizes : List ℕ) (n : ℕ) : Type 0 where
+  pub count : n ≡ length (branches e ps)
+  pub order : xs ≡ flatMap (numbersOf ps) (branches e ps)
+  pub lengths : take n sizes ≡ map (λ b. length (numbersOf ps b)) (branches e ps)
+
+-- the entries where a card may hold so many
 unfoldable pub entriesMade : (n : ℕ) (codes sizes xs : List ℕ) → List Pixel → CardEntries
 entriesMade n codes sizes xs ps = record { total = n; entries = padded mostEntries noEntry (cond (leb n mostEntries) (entriesBy n codes sizes xs ps) []) }
-
-unfoldable pub labelsMade : (n : ℕ) (sizes xs : List ℕ) → List ℕ → List ℕ
-labelsMade n sizes xs lent = cond (leb n mostEntries) (labelsBy sizes xs n lent) lent
 
 -- whether a card may hold all entries
 abbrev pub fits : Closeness → List Pixel → Bool

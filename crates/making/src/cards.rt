@@ -1,31 +1,24 @@
 // The card of an image: its entries, and the label of each pixel.
 use crate::CardEntries;
 use crate::entries::entries_of;
+use crate::labels::write_labels;
 use dividing::divide_pixels;
 use palette::MOST_ENTRIES;
 use palette::MOST_PIXELS;
 use palette::no_entries;
 ghost use mathlib.Core.Path.{_≡_};
-ghost use Prim.Native.Nat.{_≤_, _*_};
-ghost use lib.ListN.{length};
+ghost use Prim.Native.Nat.{_≤_, _*_, _/_};
+ghost use lib.ListN.{length, take};
 ghost use Rattle.verdict.specs.Test.{mostCloseness};
 ghost use Rattle.palette.specs.Cards.{pixelsOf, mostEntries};
 ghost use Rattle.palette.specs.Sound.{mostPixels};
-ghost use Rattle.making.specs.Making.{RangesLaid, entriesMade, labelsMade, cardEntries, labelsLeft};
+ghost use Rattle.making.specs.Making.{FiguresLaid, BranchesLaid, entriesMade, cardEntries, labelsLeft};
 
-// The entries and the labels of so many entries, where a card may hold them.
-pub fn finish(
-    pixels: &[u8],
-    numbers: &[u16],
-    codes: &[u32],
-    sizes: &[u32],
-    total: usize,
-    labels: &mut [u8],
-) -> CardEntries
+// The entries of so many, where a card may hold them.
+fn finish(pixels: &[u8], numbers: &[u16], codes: &[u32], sizes: &[u32], total: usize) -> CardEntries
     requires { ⌜ total ≤ mostPixels ⌝ }
-    requires { ⌜ (total ≤ mostEntries → RangesLaid (now pixels) (now numbers) (now codes) (now sizes) (now labels) total) ⌝ }
-    ensures { λ r. ⌜ (r ≡ entriesMade total (now (codes .entry)) (now (sizes .entry)) (now (numbers .entry)) (pixelsOf (now (pixels .entry))))
-        × (now (labels .exit) ≡ labelsMade total (now (sizes .entry)) (now (numbers .entry)) (now (labels .entry))) ⌝ }
+    requires { ⌜ (total ≤ mostEntries → FiguresLaid (now pixels) (now numbers) (now codes) (now sizes) total) ⌝ }
+    ensures { λ r. ⌜ r ≡ entriesMade total (now (codes .entry)) (now (sizes .entry)) (now (numbers .entry)) (pixelsOf (now (pixels .entry))) ⌝ }
 {
     if MOST_ENTRIES < total {
         return CardEntries {
@@ -35,11 +28,41 @@ pub fn finish(
     }
     CardEntries {
         total: total as u32,
-        entries: entries_of(pixels, numbers, codes, sizes, total, labels),
+        entries: entries_of(pixels, numbers, codes, sizes, total),
     }
 }
 
-// The same in lent scratch: a place in each list for each pixel, and one for each entry that a card may hold.
+// The entries, in lent scratch: at least a place in each list for each pixel, and one for each entry that a card may hold.
+// The pixels' numbers are left in `order`, entry by entry, and how many each entry has in `sizes`.
+pub fn make_entries(
+    pixels: &[u8],
+    closeness: u32,
+    order: &mut [u16],
+    other: &mut [u16],
+    keys: &mut [u8],
+    codes: &mut [u32],
+    sizes: &mut [u32],
+) -> CardEntries
+    requires { ⌜ (length (now pixels) ≡ 3 * (length (now pixels) / 3)) × (length (now pixels) ≤ 3 * mostPixels) × (closeness ≤ mostCloseness) ⌝ }
+    requires { ⌜ (length (now pixels) / 3 ≤ length (now order)) × (length (now pixels) / 3 ≤ length (now other)) × (length (now pixels) / 3 ≤ length (now keys))
+        × (length (now codes) ≡ mostEntries) × (length (now sizes) ≡ mostEntries) ⌝ }
+    ensures { λ r. ⌜ (r ≡ cardEntries closeness (pixelsOf (now (pixels .entry))))
+        × (r .total ≤ mostEntries → BranchesLaid closeness (pixelsOf (now (pixels .entry))) (take (length (now (pixels .entry)) / 3) (now (order .exit))) (now (sizes .exit)) (r .total)) ⌝ }
+{
+    let n = pixels.len() / 3;
+    let total = divide_pixels(
+        pixels,
+        closeness,
+        &mut order[..n],
+        &mut other[..n],
+        &mut keys[..n],
+        codes,
+        sizes,
+    );
+    finish(pixels, &order[..n], codes, sizes, total)
+}
+
+// The entries and the labels, in lent scratch: labels are written once the card is known to hold its entries.
 fn card_of(
     pixels: &[u8],
     closeness: u32,
@@ -56,17 +79,13 @@ fn card_of(
     ensures { λ r. ⌜ (r ≡ cardEntries closeness (pixelsOf (now (pixels .entry))))
         × (now (labels .exit) ≡ labelsLeft closeness (pixelsOf (now (pixels .entry))) (now (labels .entry))) ⌝ }
 {
+    let made = make_entries(pixels, closeness, order, other, keys, codes, sizes);
     let n = labels.len();
-    let total = divide_pixels(
-        pixels,
-        closeness,
-        &mut order[..n],
-        &mut other[..n],
-        &mut keys[..n],
-        codes,
-        sizes,
-    );
-    finish(pixels, &order[..n], codes, sizes, total, labels)
+    let total = made.total as usize;
+    if total <= MOST_ENTRIES {
+        write_labels(&order[..n], sizes, total, labels);
+    }
+    made
 }
 
 // The entries and the labels, where a card may hold so many entries; else how many there are, with the labels as lent.

@@ -1,4 +1,4 @@
-// The entries of a card and the labels of its pixels, from the numbers of the pixels, entry by entry.
+// The entries of a card, from the numbers of the pixels, entry by entry.
 use crate::Sums;
 use dividing::pixel_at;
 use palette::Entry;
@@ -11,7 +11,7 @@ ghost use Rattle.lists.specs.Lists.{padded};
 ghost use Rattle.palette.specs.Cards.{pixelsOf, mostEntries, noEntry};
 ghost use Rattle.palette.specs.Sound.{mostPixels};
 ghost use Rattle.dividing.specs.Splitting.{AllIn};
-ghost use Rattle.making.specs.Making.{sumsOf, labelled, meanBy, entryBy, entriesBy, labelsBy, RangesLaid};
+ghost use Rattle.making.specs.Making.{sumsOf, meanBy, entryBy, entriesBy, FiguresLaid};
 
 fn plus(sum: u32, level: u8) -> u32
     requires { ⌜ sum ≤ 255 * mostPixels ⌝ }
@@ -20,23 +20,20 @@ fn plus(sum: u32, level: u8) -> u32
     sum + level as u32
 }
 
-// Adds up the pixels of one entry and gives each its label, in one pass over their numbers.
-fn gather(pixels: &[u8], numbers: &[u16], label: u8, labels: &mut [u8]) -> Sums
-    requires { ⌜ (length (now numbers) ≤ mostPixels) × AllIn (now numbers) (now pixels) × (length (now pixels) ≡ 3 * length (now labels)) ⌝ }
-    ensures { λ r. ⌜ (r ≡ sumsOf (pixelsOf (now (pixels .entry))) (now (numbers .entry)))
-        × (now (labels .exit) ≡ labelled label (now (numbers .entry)) (now (labels .entry))) ⌝ }
+// Adds up the pixels of one entry.
+fn gather(pixels: &[u8], numbers: &[u16]) -> Sums
+    requires { ⌜ (length (now numbers) ≤ mostPixels) × AllIn (now numbers) (now pixels) ⌝ }
+    ensures { λ r. ⌜ r ≡ sumsOf (pixelsOf (now (pixels .entry))) (now (numbers .entry)) ⌝ }
 {
     let mut red = 0;
     let mut green = 0;
     let mut blue = 0;
     let mut i = 0;
     while i < numbers.len() {
-        let at = numbers[i] as usize;
-        let p = pixel_at(pixels, at);
+        let p = pixel_at(pixels, numbers[i] as usize);
         red = plus(red, p.red);
         green = plus(green, p.green);
         blue = plus(blue, p.blue);
-        labels[at] = label;
         i += 1;
     }
     Sums { red, green, blue }
@@ -66,25 +63,23 @@ fn entry(code: u32, count: u32, sums: Sums) -> Entry
     }
 }
 
-// The n entries, each with the next of the numbers, as many as its size says; each pixel gets its entry's number as its label.
+// The n entries, each of the next of the numbers, as many as its size says.
 pub fn entries_of(
     pixels: &[u8],
     numbers: &[u16],
     codes: &[u32],
     sizes: &[u32],
     n: usize,
-    labels: &mut [u8],
 ) -> [Entry; MOST_ENTRIES]
-    requires { ⌜ RangesLaid (now pixels) (now numbers) (now codes) (now sizes) (now labels) n ⌝ }
-    ensures { λ r. ⌜ (r ≡ padded mostEntries noEntry (entriesBy n (now (codes .entry)) (now (sizes .entry)) (now (numbers .entry)) (pixelsOf (now (pixels .entry)))))
-        × (now (labels .exit) ≡ labelsBy (now (sizes .entry)) (now (numbers .entry)) n (now (labels .entry))) ⌝ }
+    requires { ⌜ FiguresLaid (now pixels) (now numbers) (now codes) (now sizes) n ⌝ }
+    ensures { λ r. ⌜ r ≡ padded mostEntries noEntry (entriesBy n (now (codes .entry)) (now (sizes .entry)) (now (numbers .entry)) (pixelsOf (now (pixels .entry)))) ⌝ }
 {
     let mut entries = [no_entry(); MOST_ENTRIES];
     let mut at = 0;
     let mut k = 0;
     while k < n {
         let end = at + sizes[k] as usize;
-        let sums = gather(pixels, &numbers[at..end], k as u8, labels);
+        let sums = gather(pixels, &numbers[at..end]);
         entries[k] = entry(codes[k], sizes[k], sums);
         at = end;
         k += 1;

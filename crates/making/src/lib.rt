@@ -4,9 +4,10 @@ use palette::MOST_ENTRIES;
 
 mod cards;
 mod entries;
+mod labels;
 
-pub use cards::finish;
 pub use cards::make_card;
+pub use cards::make_entries;
 
 // How many entries a card has as defined, and the entries where a card may hold so many; the places past them are zero.
 pub struct CardEntries {

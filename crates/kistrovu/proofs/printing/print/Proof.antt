@@ -9,12 +9,9 @@ use Rattle.kistrovu.proofs.printing.print.Tie as tie
 slice-aggregate-print-in : tie.Need-slice-aggregate-print-in
 slice-aggregate-print-in c = search needs
 
-slice-aggregate-print-in-2 : tie.Need-slice-aggregate-print-in-2
-slice-aggregate-print-in-2 c = search needs
-
 print-in-requires : tie.Need-print-in-requires
 unfolding mostSwatchPixels
-print-in-requires c κs = (length-replicate {A = ℕ} 49152 0, length-replicate {A = ℕ} 16384 0, c .before .before .before .before .before .pre)
+print-in-requires c κs = (length-replicate {A = ℕ} 49152 0, c .before .before .before .before .pre)
 
 same-length : tie.Need-same-length
 same-length c = search needs
@@ -24,10 +21,4 @@ returns c = search needs
 
 pub print-spec : {M : Type 1} → statement M
 print-spec =
-    tie.close
-    (tie.spec
-    slice-aggregate-print-in
-    slice-aggregate-print-in-2
-    print-in-requires
-    same-length
-    returns)
+    tie.close (tie.spec slice-aggregate-print-in print-in-requires same-length returns)

@@ -1,88 +1,71 @@
 -- `card_of` meets its contract. Assumes nothing.
-use Prim.Native.Nat.{ℕ, _*_}
-use mathlib.Core.Path.{_≡_, refl, sym, ap, _∙_}
-use mathlib.Core.List.{List, _++_}
+use Prim.Native.Nat.{ℕ, _/_, _≤_}
+use mathlib.Core.Path.{_≡_, sym, ap, _∙_}
+use mathlib.Core.List.{List}
 use native.Mathlib.Omega.{arith}
-use lib.ListN.{length, take, drop}
-use lib.Seq.{length-take-le, take-at}
-use Rattle.pixel.specs.Ranges.{Bytes}
-use Rattle.palette.specs.Cards.{pixelsOf}
-use Rattle.palette.specs.Sound.{pixelAt}
-use Rattle.palette.proofs.Triples.{pixels-length, pixels-bytes}
-use Rattle.making.specs.Making.{entriesMade, labelsMade}
-use Rattle.making.proofs.Divided.{divided-few, divided-laid, card-made, labels-made}
+use lib.ListN.{length, take}
+use lib.Seq.{length-take-le}
+use Rattle.palette.specs.Cards.{pixelsOf, branches, entries, mostEntries}
+use Rattle.palette.proofs.Triples.{pixels-length}
+use Rattle.making.specs.declared.CardEntries.{CardEntries}
+use Rattle.making.specs.Making.{BranchesLaid, cardEntries}
+use Rattle.making.proofs.Divided.{bytes-each, flat-below}
+use Rattle.making.proofs.Laid.{ranges-laid}
+use Rattle.making.proofs.Labelled.{labels-left, labels-kept}
 use borrow.Author.Needs.{needs}
 use Rattle.making.proofs.cards.card_of.Statement.{statement}
 use Rattle.making.proofs.cards.card_of.Tie as tie
 
-abbrev entry : tie.After-divide-pixels → tie.Start
+abbrev entry : tie.After-make-entries → tie.Start
 entry m = m .before .before .before .before .before .before .before .before .before .before .before .before .before
 
-abbrev numbers : tie.After-divide-pixels → List ℕ
-numbers m = m .divide-pixels .last .1 .1 .0
+abbrev order : tie.After-make-entries → List ℕ
+order m = m .make-entries .last .1 .1 .0
 
-abbrev codes : tie.After-divide-pixels → List ℕ
-codes m = m .divide-pixels .last .1 .1 .1 .1 .1 .0
+abbrev sizes : tie.After-make-entries → List ℕ
+sizes m = m .make-entries .last .1 .1 .1 .1 .1 .1 .0
 
-abbrev sizes : tie.After-divide-pixels → List ℕ
-sizes m = m .divide-pixels .last .1 .1 .1 .1 .1 .1 .0
+-- the numbers of the pixels, and what is known of them
+abbrev numbers : tie.After-make-entries → List ℕ
+numbers m = take (length (entry m .args .labels .now)) (order m)
 
-long : (m : tie.After-divide-pixels) → length (numbers m) ≡ length (entry m .args .labels .now)
-long m = m .divide-pixels .kept .1 .1 .0 ∙ length-take-le (length (entry m .args .labels .now)) (entry m .args .order .now) (entry m .pre .1 .0)
+long : (m : tie.After-make-entries) → length (numbers m) ≡ length (entry m .args .labels .now)
+long m = length-take-le (length (entry m .args .labels .now)) (order m) (omega (arith, m .make-entries .kept .1 .1 .0, entry m .pre .1 .0))
 
--- the numbers as they are lent again
-front : (m : tie.After-divide-pixels) → take (length (entry m .args .labels .now)) (numbers m ++ drop (length (entry m .args .labels .now)) (entry m .args .order .now)) ≡ numbers m
-front m = take-at (numbers m) _ (length (entry m .args .labels .now)) (long m)
+laid : (m : tie.After-make-entries) → m .make-entries .result .total ≤ mostEntries
+    → BranchesLaid (entry m .args .closeness) (pixelsOf (entry m .args .pixels .now)) (numbers m) (sizes m) (m .make-entries .result .total)
+laid m few =
+    let all : length (entry m .args .pixels .now) / 3 ≡ length (entry m .args .labels .now) = omega (arith, entry m .pre .0 .0) in
+    rw all at (m .make-entries .ensures .1 few)
 
-bytes : (m : tie.After-divide-pixels) (i : ℕ) → Bytes (pixelAt (pixelsOf (entry m .args .pixels .now)) i)
-bytes m = pixels-bytes (entry m .args .pixels .now) (λ j. let known = m .before .before .before .before .before .before .before .before .before .before .before .before .shared-slice-known .given j in omega arith)
+total : (m : tie.After-make-entries) → m .make-entries .result .total ≡ length (entries (entry m .args .closeness) (pixelsOf (entry m .args .pixels .now)))
+unfolding cardEntries
+total m = ap (λ (z : CardEntries). z .total) (m .make-entries .ensures .0)
 
-slice-relend-prefix-divide-pixels : tie.Need-slice-relend-prefix-divide-pixels
-slice-relend-prefix-divide-pixels c = search needs
+make-entries-requires : tie.Need-make-entries-requires
+make-entries-requires c κs = search needs
 
-slice-aggregate-divide-pixels : tie.Need-slice-aggregate-divide-pixels
-slice-aggregate-divide-pixels c = let s = c .before .before .before .before .before .before .before .before in sym (length-take-le (length (s .args .labels .now)) (s .args .order .now) (s .pre .1 .0))
+cast-total : tie.Need-cast-total
+cast-total c = search needs
 
-slice-relend-prefix-divide-pixels-2 : tie.Need-slice-relend-prefix-divide-pixels-2
-slice-relend-prefix-divide-pixels-2 c = search needs
+slice-reshare-prefix-write-labels : tie.Need-slice-reshare-prefix-write-labels
+slice-reshare-prefix-write-labels c = search needs
 
-slice-aggregate-divide-pixels-2 : tie.Need-slice-aggregate-divide-pixels-2
-slice-aggregate-divide-pixels-2 c = let s = c .before .before .before .before .before .before .before .before .before in sym (length-take-le (length (s .args .labels .now)) (s .args .other .now) (s .pre .1 .1))
+slice-aggregate-write-labels : tie.Need-slice-aggregate-write-labels
+slice-aggregate-write-labels c = let m = c .before .before .before .before .before .before .before .before .before .before .before .before .before in sym (long m)
 
-slice-relend-prefix-divide-pixels-3 : tie.Need-slice-relend-prefix-divide-pixels-3
-slice-relend-prefix-divide-pixels-3 c = search needs
-
-slice-aggregate-divide-pixels-3 : tie.Need-slice-aggregate-divide-pixels-3
-slice-aggregate-divide-pixels-3 c = let s = c .before .before .before .before .before .before .before .before .before .before in sym (length-take-le (length (s .args .labels .now)) (s .args .keys .now) (s .pre .1 .2))
-
-divide-pixels-requires : tie.Need-divide-pixels-requires
-divide-pixels-requires c κs =
-    let a = c .before .before .before .before .before .before .before .before .before .before .before .before .args in
-    let p = c .before .before .before .before .before .before .before .before .before .before .before .before .pre in
-    let n = length (a .labels .now) in
-    let x = length-take-le n (a .order .now) (p .1 .0) in
-    let y = length-take-le n (a .other .now) (p .1 .1) in
-    let z = length-take-le n (a .keys .now) (p .1 .2) in
-    (p .0 .0 ∙ ap (λ (k : ℕ). 3 * k) (sym x), x ∙ sym y, z ∙ sym x, omega (arith, x, p .0 .1), p .0 .2)
-
-slice-reshare-prefix-finish : tie.Need-slice-reshare-prefix-finish
-slice-reshare-prefix-finish c = search needs
-
-slice-aggregate-finish : tie.Need-slice-aggregate-finish
-slice-aggregate-finish c = let m = c .before .before .before .before .before .before .before .before .before .before .before in sym (ap length (front m) ∙ long m)
-
-finish-requires : tie.Need-finish-requires
-finish-requires c κs =
-    let m = c .before .before .before .before .before .before .before .before .before .before .before .before .before .before in
+write-labels-requires : tie.Need-write-labels-requires
+unfolding mostEntries
+write-labels-requires c κs =
+    let m = c .before .before .before .before .before .before .before .before .before .before .before .before .before .before .before in
     let a = entry m .args in
     let p = entry m .pre in
     let ps = pixelsOf (a .pixels .now) in
-    let d = m .divide-pixels in
-    rw (front m) (
-      omega (arith, divided-few (a .closeness) ps (bytes m) (a .codes .now) (a .sizes .now) (codes m) (sizes m) (numbers m) (d .result) (d .ensures), long m, p .0 .1),
-      λ few. divided-laid (a .closeness) ps (bytes m) (a .codes .now) (a .sizes .now) (codes m) (sizes m) (numbers m) (d .result) (d .ensures) few (p .1 .3) (p .1 .4)
-          (a .pixels .now) (a .labels .now) refl (p .0 .0) (p .0 .1) (long m) (d .kept .1 .1 .1 .1 .1 .0 ∙ p .1 .3) (d .kept .1 .1 .1 .1 .1 .1 .0 ∙ p .1 .4),
-    )
+    let r = m .make-entries in
+    let few : r .result .total ≤ mostEntries = omega arith in
+    let d = laid m few in
+    let below = flat-below (a .pixels .now) (length (a .labels .now)) (p .0 .0) (branches (a .closeness) ps) in
+    (ranges-laid (a .closeness) ps (numbers m) (sizes m) (r .result .total) d few (omega (arith, r .kept .1 .1 .1 .1 .1 .1 .0, p .1 .4)), rw (d .order) below)
 
 same-length : tie.Need-same-length
 same-length c = search needs
@@ -103,38 +86,58 @@ same-length-6 : tie.Need-same-length-6
 same-length-6 c = search needs
 
 returns : tie.Need-returns
+unfolding mostEntries
 returns c =
-    let m = c .before .before .before .before .before .before .before .before .before .before .before .before .before .before .before .before .before in
+    let m = c .before .before .before .before .before .before .before .before .before .before .before .before .before .before .before .before .before .before in
     let a = entry m .args in
-    let p = entry m .pre in
     let ps = pixelsOf (a .pixels .now) in
-    let d = m .divide-pixels in
-    let r = c .before .before .finish .ensures in
-    let same = sym (pixels-length (a .pixels .now) (length (a .labels .now)) (p .0 .0)) in (
-      r .0 ∙ ap (λ (xs : List ℕ). entriesMade (d .result) (codes m) (sizes m) xs ps) (front m)
-          ∙ card-made (a .closeness) ps (bytes m) (a .codes .now) (a .sizes .now) (codes m) (sizes m) (numbers m) (d .result) (d .ensures) (p .1 .3) (p .1 .4),
-      r .1 ∙ ap (λ (xs : List ℕ). labelsMade (d .result) (sizes m) xs (a .labels .now)) (front m)
-          ∙ labels-made (a .closeness) ps (bytes m) (a .codes .now) (a .sizes .now) (codes m) (sizes m) (numbers m) (d .result) (d .ensures) (p .1 .3) (p .1 .4) (a .labels .now) same,
-    )
+    let r = m .make-entries in
+    let few : r .result .total ≤ mostEntries = omega arith in
+    let byte = bytes-each (a .pixels .now) (λ j. let known = m .before .before .before .before .before .before .before .before .before .before .before .before .shared-slice-known .given j in omega arith) in
+    let same = sym (pixels-length (a .pixels .now) (length (a .labels .now)) (entry m .pre .0 .0)) in
+    (r .ensures .0, c .before .before .write-labels .ensures ∙ labels-left (a .closeness) ps byte (numbers m) (sizes m) (r .result .total) (laid m few) (a .labels .now) same few)
+
+same-length-7 : tie.Need-same-length-7
+same-length-7 c = search needs
+
+same-length-8 : tie.Need-same-length-8
+same-length-8 c = search needs
+
+same-length-9 : tie.Need-same-length-9
+same-length-9 c = search needs
+
+same-length-10 : tie.Need-same-length-10
+same-length-10 c = search needs
+
+same-length-11 : tie.Need-same-length-11
+same-length-11 c = search needs
+
+returns-2 : tie.Need-returns-2
+unfolding mostEntries
+returns-2 c =
+    let m = c .before .before .before .before .before .before .before .before .before .before .before .before in
+    let a = entry m .args in
+    (m .make-entries .ensures .0, labels-kept (a .closeness) (pixelsOf (a .pixels .now)) (a .labels .now) (omega (arith, total m)))
 
 pub card-of-spec : {M : Type 1} → statement M
 card-of-spec =
     tie.close
     (tie.spec
-    slice-relend-prefix-divide-pixels
-    slice-aggregate-divide-pixels
-    slice-relend-prefix-divide-pixels-2
-    slice-aggregate-divide-pixels-2
-    slice-relend-prefix-divide-pixels-3
-    slice-aggregate-divide-pixels-3
-    divide-pixels-requires
-    slice-reshare-prefix-finish
-    slice-aggregate-finish
-    finish-requires
+    make-entries-requires
+    cast-total
+    slice-reshare-prefix-write-labels
+    slice-aggregate-write-labels
+    write-labels-requires
     same-length
     same-length-2
     same-length-3
     same-length-4
     same-length-5
     same-length-6
-    returns)
+    returns
+    same-length-7
+    same-length-8
+    same-length-9
+    same-length-10
+    same-length-11
+    returns-2)

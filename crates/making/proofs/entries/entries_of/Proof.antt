@@ -1,6 +1,6 @@
--- `entries_of` meets its contract. The loop's invariant: the entries passed stand in the first places, and their pixels have their labels. Assumes nothing.
-use Prim.Native.Nat.{ℕ, _+_, _*_, _-_, _≤_}
-use mathlib.Core.Path.{_≡_, refl, sym, ap, _∙_}
+-- `entries_of` meets its contract. The loop's invariant: the entries passed stand in the first places. Assumes nothing.
+use Prim.Native.Nat.{_+_, _*_, _-_, _≤_, _<_}
+use mathlib.Core.Path.{refl, sym, ap, _∙_}
 use mathlib.Core.List.{List}
 use native.Mathlib.Omega.{arith}
 use borrow.Author.Needs.{needs}
@@ -11,20 +11,21 @@ use Rattle.lists.proofs.Buffers.{over-none, over-padded}
 use Rattle.palette.specs.declared.Entry.{Entry}
 use Rattle.palette.specs.Cards.{pixelsOf, mostEntries, noEntry}
 use Rattle.palette.specs.Sound.{mostPixels}
-use Rattle.making.specs.Making.{entriesBy, labelsBy}
-use Rattle.making.proofs.Made.{Made, entries-long, next-within, part-long, part-in, part-few, made-more}
+use Rattle.making.specs.Making.{entriesBy}
+use Rattle.making.proofs.Laid.{next-within, part-long, part-each}
+use Rattle.making.proofs.Made.{Made, entries-long, part-few, made-more}
 use Rattle.making.proofs.entries.entries_of.Statement.{statement}
 use Rattle.making.proofs.entries.entries_of.Tie as tie
 
 abbrev Inv-loop : tie.InvT-loop
-Inv-loop pixels numbers codes sizes n labels₀ entries₀ at₀ k₀ labels entries at k = Made pixels numbers codes sizes labels₀ n entries₀ k at labels entries
+Inv-loop pixels numbers codes sizes n entries₀ at₀ k₀ entries at k = Made pixels numbers codes sizes n entries₀ k at entries
 
 abbrev μ-loop : tie.MeasureT-loop
-μ-loop pixels numbers codes sizes n labels₀ entries₀ at₀ k₀ labels entries at k = n - k
+μ-loop pixels numbers codes sizes n entries₀ at₀ k₀ entries at k = n - k
 
 -- the way to the call, and the blank entries
 abbrev entry : tie.At-loop Inv-loop μ-loop → tie.Start Inv-loop μ-loop
-entry c = c .before .before .before .before .before .before .before
+entry c = c .before .before .before .before .before .before
 
 abbrev blank : tie.At-loop Inv-loop μ-loop → List Entry
 blank c = replicate 255 (c .before .no-entry .result)
@@ -33,15 +34,13 @@ next : (c : tie.In-loop Inv-loop μ-loop) → c .before .loop .at + getD (entry 
 next c =
     let l = c .before .loop in
     let a = entry (c .before) .args in
-    next-within (a .pixels .now) (a .numbers .now) (a .codes .now) (a .sizes .now) (a .labels .now) (a .n) (entry (c .before) .pre) (blank (c .before)) (l .k) (l .at) (l .labels) (l .entries) (l .inv)
-    (c .loop-test .taken)
+    next-within (a .numbers .now) (a .sizes .now) (a .n) (entry (c .before) .pre .ranges) (l .k) (l .at) (l .inv .start) (c .loop-test .taken)
 
 no-entry-requires : tie.Need-no-entry-requires Inv-loop μ-loop
 no-entry-requires c κs = search needs
 
 loop-holds : tie.Need-loop-holds Inv-loop μ-loop
-unfolding labelsBy
-loop-holds c = record { within = omega arith; start = refl; room = refl; made = sym (over-none _); long = refl; given = refl }
+loop-holds c = record { within = omega arith; start = refl; room = refl; made = sym (over-none _) }
 
 mul-end : tie.Need-mul-end Inv-loop μ-loop
 mul-end c = search needs
@@ -54,11 +53,11 @@ cast-end c = omega (arith, c .shared-slice-known5 .given (c .before .before .loo
 
 add-end : tie.Need-add-end Inv-loop μ-loop
 unfolding mostPixels
-add-end c = let p = entry (c .before .before) .pre in omega (arith, next (c .before), p .numbered, p .many)
+add-end c = omega (arith, next (c .before), entry (c .before .before) .pre .many)
 
 mul-gather : tie.Need-mul-gather Inv-loop μ-loop
 unfolding mostPixels
-mul-gather c = let p = entry (c .before .before) .pre in omega (arith, next (c .before), p .numbered, p .many)
+mul-gather c = omega (arith, next (c .before), entry (c .before .before) .pre .many)
 
 sub-gather : tie.Need-sub-gather Inv-loop μ-loop
 sub-gather c = omega arith
@@ -69,18 +68,15 @@ part-gather-start c = omega arith
 part-gather-end : tie.Need-part-gather-end Inv-loop μ-loop
 part-gather-end c = omega (arith, next (c .before))
 
-cast-gather : tie.Need-cast-gather Inv-loop μ-loop
-unfolding mostEntries
-cast-gather c = omega (arith, entry (c .before .before .before) .pre .few)
-
 gather-requires : tie.Need-gather-requires Inv-loop μ-loop
 gather-requires c κs =
-    let l = c .before .before .before .before .loop in
-    let a = entry (c .before .before .before .before) .args in
-    let p = entry (c .before .before .before .before) .pre in
-    let t = c .before .before .before .loop-test .taken in
-    let long = part-long (a .pixels .now) (a .numbers .now) (a .codes .now) (a .sizes .now) (a .labels .now) (a .n) p (blank (c .before .before .before .before)) (l .k) (l .at) (l .labels) (l .entries) (l .inv) t in
-    (omega (arith, long, next (c .before .before .before), p .numbered, p .many), part-in (a .pixels .now) (a .numbers .now) (a .codes .now) (a .sizes .now) (a .labels .now) (a .n) p (blank (c .before .before .before .before)) (l .k) (l .at) (l .labels) (l .entries) (l .inv) t, p .pixels ∙ ap (λ (j : ℕ). 3 * j) (sym (l .inv .long)))
+    let i = c .before .before in
+    let l = i .before .loop in
+    let a = entry (i .before) .args in
+    let p = entry (i .before) .pre in
+    let t = i .loop-test .taken in
+    let long = part-long (a .numbers .now) (a .sizes .now) (a .n) (p .ranges) (l .k) (l .at) (l .inv .start) t in
+    (omega (arith, long, next i, p .many), part-each (a .numbers .now) (a .sizes .now) (a .n) (p .ranges) (l .k) (l .at) (l .inv .start) t (λ x. 3 * x + 2 < length (a .pixels .now)) (p .inside))
 
 mul-entry : tie.Need-mul-entry Inv-loop μ-loop
 mul-entry c = search needs
@@ -96,25 +92,27 @@ shared-slice-read-entry-2 c = search needs
 
 entry-requires : tie.Need-entry-requires Inv-loop μ-loop
 entry-requires c κs =
-    let l = c .before .before .before .before .before .before .before .before .before .loop in
-    let a = entry (c .before .before .before .before .before .before .before .before .before) .args in
-    let p = entry (c .before .before .before .before .before .before .before .before .before) .pre in
-    let t = c .before .before .before .before .before .before .before .before .loop-test .taken in
-    let few = part-few (a .pixels .now) (a .numbers .now) (a .codes .now) (a .sizes .now) (a .labels .now) (a .n) p (blank (c .before .before .before .before .before .before .before .before .before)) (l .k) (l .at) (l .labels) (l .entries) (l .inv) t (c .before .before .before .before .gather .result) (c .before .before .before .before .gather .ensures .0)
-    (λ j. let known = c .before .before .before .before .before .before .before .before .before .before .before .before .before .before .before .shared-slice-known .given j in omega arith) in
-    (p .small (l .k) t, p .filled (l .k) t, omega (arith, next (c .before .before .before .before .before .before .before .before), p .numbered, p .many), few .red, few .green, few .blue)
+    let i = c .before .before .before .before .before in
+    let l = i .before .loop in
+    let a = entry (i .before) .args in
+    let p = entry (i .before) .pre in
+    let t = i .loop-test .taken in
+    let g = c .before .before .gather in
+    let few = part-few (a .pixels .now) (a .numbers .now) (a .codes .now) (a .sizes .now) (a .n) (p .ranges) (blank (i .before)) (l .k) (l .at) (l .entries) (l .inv) t (g .result) (g .ensures)
+    (λ j. let known = i .before .before .before .before .before .before .shared-slice-known .given j in omega arith) in
+    (p .small (l .k) t, p .filled (l .k) t, omega (arith, next i, p .many), few .red, few .green, few .blue)
 
 mul-entries : tie.Need-mul-entries Inv-loop μ-loop
 unfolding mostEntries
-mul-entries c = omega (arith, entry (c .before .before .before .before .before .before .before .before .before .before) .pre .few)
+mul-entries c = omega (arith, entry (c .before .before .before .before .before .before .before) .pre .ranges .few)
 
 array-set-from-entries : tie.Need-array-set-from-entries Inv-loop μ-loop
 unfolding mostEntries
-array-set-from-entries c = omega (arith, entry (c .before .before .before .before .before .before .before .before .before .before) .pre .few)
+array-set-from-entries c = omega (arith, entry (c .before .before .before .before .before .before .before) .pre .ranges .few)
 
 add-k : tie.Need-add-k Inv-loop μ-loop
 unfolding mostEntries
-add-k c = omega (arith, entry (c .before .before .before .before .before .before .before .before .before .before) .pre .few)
+add-k c = omega (arith, entry (c .before .before .before .before .before .before .before) .pre .ranges .few)
 
 loop-less : tie.Need-loop-less Inv-loop μ-loop
 loop-less c = search needs
@@ -122,15 +120,13 @@ loop-less c = search needs
 loop-again : tie.Need-loop-again Inv-loop μ-loop
 unfolding mostEntries
 loop-again c =
-    let l = c .before .before .before .before .before .before .before .before .before .before .loop in
-    let a = entry (c .before .before .before .before .before .before .before .before .before .before) .args in
-    let p = entry (c .before .before .before .before .before .before .before .before .before .before) .pre in
-    let t = c .before .before .before .before .before .before .before .before .before .loop-test .taken in
-    let g = c .before .before .before .before .before .gather in
-    made-more (a .pixels .now) (a .numbers .now) (a .codes .now) (a .sizes .now) (a .labels .now) (a .n) p (blank (c .before .before .before .before .before .before .before .before .before .before)) (l .k) (l .at) (l .labels) (l .entries) (l .inv) t (g .result) (g .ensures .0) (c .entry .result) (g .last .1 .1 .1 .0) (c .entry .ensures) (g .ensures .1) (omega (arith, p .few))
-
-same-length : tie.Need-same-length Inv-loop μ-loop
-same-length c = c .before .loop .inv .long
+    let i = c .before .before .before .before .before .before in
+    let l = i .before .loop in
+    let a = entry (i .before) .args in
+    let r = entry (i .before) .pre .ranges in
+    let g = c .before .before .before .gather in
+    made-more (a .pixels .now) (a .numbers .now) (a .codes .now) (a .sizes .now) (a .n) r (blank (i .before)) (l .k) (l .at) (l .entries) (l .inv) (i .loop-test .taken) (g .result) (g .ensures)
+    (c .entry .result) (c .entry .ensures) (omega (arith, r .few))
 
 returns : tie.Need-returns Inv-loop μ-loop
 unfolding mostEntries
@@ -139,11 +135,8 @@ returns c =
     let a = entry (c .before) .args in
     let made = entriesBy (a .n) (a .codes .now) (a .sizes .now) (a .numbers .now) (pixelsOf (a .pixels .now)) in
     let long = entries-long (a .n) (a .codes .now) (a .sizes .now) (a .numbers .now) (pixelsOf (a .pixels .now)) in
-    let end : l .k ≡ a .n = omega (arith, l .inv .within, c .loop-test .left) in (
-      l .inv .made ∙ ap (λ (es : List Entry). over es (blank (c .before))) (take-all (l .k) made (omega arith))
-          ∙ ap (λ (z : Entry). over made (replicate 255 z)) (c .before .before .no-entry .ensures) ∙ over-padded 255 noEntry made,
-      l .inv .given ∙ ap (λ (k : ℕ). labelsBy (a .sizes .now) (a .numbers .now) k (a .labels .now)) end,
-    )
+    l .inv .made ∙ ap (λ (es : List Entry). over es (blank (c .before))) (take-all (l .k) made (omega (arith, c .loop-test .left)))
+    ∙ ap (λ (z : Entry). over made (replicate 255 z)) (c .before .before .no-entry .ensures) ∙ over-padded 255 noEntry made
 
 pub entries-of-spec : {M : Type 1} → statement M
 entries-of-spec =
@@ -161,7 +154,6 @@ entries-of-spec =
     sub-gather
     part-gather-start
     part-gather-end
-    cast-gather
     gather-requires
     mul-entry
     shared-slice-read-entry
@@ -173,5 +165,4 @@ entries-of-spec =
     add-k
     loop-less
     loop-again
-    same-length
     returns)

@@ -1,4 +1,4 @@
--- `gather` meets its contract. The loop's invariant: the pixels passed are added up and have their label. Assumes nothing.
+-- `gather` meets its contract. The loop's invariant: the pixels passed are added up. Assumes nothing.
 use Prim.Native.Nat.{_-_}
 use native.Mathlib.Omega.{arith}
 use borrow.Author.Needs.{needs}
@@ -10,14 +10,14 @@ use Rattle.making.proofs.entries.gather.Statement.{statement}
 use Rattle.making.proofs.entries.gather.Tie as tie
 
 abbrev Inv-loop : tie.InvT-loop
-Inv-loop pixels numbers label labels₀ red₀ green₀ blue₀ i₀ labels red green blue i = Gathered (pixelsOf pixels) numbers labels₀ label i red green blue labels
+Inv-loop pixels numbers red₀ green₀ blue₀ i₀ red green blue i = Gathered (pixelsOf pixels) numbers i red green blue
 
 abbrev μ-loop : tie.MeasureT-loop
-μ-loop pixels numbers label labels₀ red₀ green₀ blue₀ i₀ labels red green blue i = length numbers - i
+μ-loop pixels numbers red₀ green₀ blue₀ i₀ red green blue i = length numbers - i
 
 -- the way to the call
 abbrev entry : tie.At-loop Inv-loop μ-loop → tie.Start Inv-loop μ-loop
-entry c = c .before .before .before .before
+entry c = c .before .before .before
 
 few : (c : tie.After-pixel-at Inv-loop μ-loop)
     → SumsFew (record { red = c .before .before .before .loop .red; green = c .before .before .before .loop .green; blue = c .before .before .before .loop .blue })
@@ -25,20 +25,20 @@ few : (c : tie.After-pixel-at Inv-loop μ-loop)
 few c =
     let l = c .before .before .before .loop in
     let a = entry (c .before .before .before) .args in
-    gathered-room (pixelsOf (a .pixels .now)) (a .numbers .now) (a .labels .now) (a .label) (l .i) (l .red) (l .green) (l .blue) (l .labels) (l .inv)
-    (pixels-bytes (a .pixels .now) (λ j. let known = c .before .before .before .before .before .before .shared-slice-known .given j in omega arith))
+    gathered-room (pixelsOf (a .pixels .now)) (a .numbers .now) (l .i) (l .red) (l .green) (l .blue) (l .inv)
+    (pixels-bytes (a .pixels .now) (λ j. let known = c .before .before .before .before .before .shared-slice-known .given j in omega arith))
 
 loop-holds : tie.Need-loop-holds Inv-loop μ-loop
-loop-holds c = gathered-none _ _ _ _
+loop-holds c = gathered-none _ _
 
-mul-at : tie.Need-mul-at Inv-loop μ-loop
-mul-at c = search needs
+mul-pixel-at : tie.Need-mul-pixel-at Inv-loop μ-loop
+mul-pixel-at c = search needs
 
-shared-slice-read-at : tie.Need-shared-slice-read-at Inv-loop μ-loop
-shared-slice-read-at c = search needs
+shared-slice-read-pixel-at : tie.Need-shared-slice-read-pixel-at Inv-loop μ-loop
+shared-slice-read-pixel-at c = search needs
 
-cast-at : tie.Need-cast-at Inv-loop μ-loop
-cast-at c = omega (arith, c .shared-slice-known3 .given (c .before .before .loop .i))
+cast-pixel-at : tie.Need-cast-pixel-at Inv-loop μ-loop
+cast-pixel-at c = omega (arith, c .shared-slice-known3 .given (c .before .before .loop .i))
 
 pixel-at-requires : tie.Need-pixel-at-requires Inv-loop μ-loop
 pixel-at-requires c κs = entry (c .before .before) .pre .1 (c .before .before .loop .i) (omega arith)
@@ -52,12 +52,6 @@ plus-requires-2 c κs = omega (arith, few (c .before) .green, entry (c .before .
 plus-requires-3 : tie.Need-plus-requires-3 Inv-loop μ-loop
 plus-requires-3 c κs = omega (arith, few (c .before .before) .blue, entry (c .before .before .before .before .before) .pre .0)
 
-slice-write-labels : tie.Need-slice-write-labels Inv-loop μ-loop
-slice-write-labels c =
-    let l = c .before .before .before .before .before .before .loop in
-    let p = entry (c .before .before .before .before .before .before) .pre in
-    omega (arith, p .1 (l .i) (omega arith), p .2, l .inv .long)
-
 add-i : tie.Need-add-i Inv-loop μ-loop
 add-i c = search needs
 
@@ -69,17 +63,14 @@ loop-again c =
     let l = c .before .before .before .before .before .before .loop in
     let a = entry (c .before .before .before .before .before .before) .args in
     let p = c .before .before .before .pixel-at in
-    gathered-more (pixelsOf (a .pixels .now)) (a .numbers .now) (a .labels .now) (a .label) (l .i) (l .red) (l .green) (l .blue) (l .labels) (l .inv) (c .before .before .before .before .before .loop-test .taken)
+    gathered-more (pixelsOf (a .pixels .now)) (a .numbers .now) (l .i) (l .red) (l .green) (l .blue) (l .inv) (c .before .before .before .before .before .loop-test .taken)
     (p .result) (p .ensures) (c .before .before .plus .result) (c .before .plus2 .result) (c .plus3 .result) (c .before .before .plus .ensures) (c .before .plus2 .ensures) (c .plus3 .ensures)
-
-same-length : tie.Need-same-length Inv-loop μ-loop
-same-length c = c .before .loop .inv .long
 
 returns : tie.Need-returns Inv-loop μ-loop
 returns c =
     let l = c .before .loop in
     let a = entry (c .before) .args in
-    gathered-all (pixelsOf (a .pixels .now)) (a .numbers .now) (a .labels .now) (a .label) (l .i) (l .red) (l .green) (l .blue) (l .labels) (l .inv) (c .loop-test .left)
+    gathered-all (pixelsOf (a .pixels .now)) (a .numbers .now) (l .i) (l .red) (l .green) (l .blue) (l .inv) (c .loop-test .left)
 
 pub gather-spec : {M : Type 1} → statement M
 gather-spec =
@@ -88,16 +79,14 @@ gather-spec =
     Inv-loop
     μ-loop
     loop-holds
-    mul-at
-    shared-slice-read-at
-    cast-at
+    mul-pixel-at
+    shared-slice-read-pixel-at
+    cast-pixel-at
     pixel-at-requires
     plus-requires
     plus-requires-2
     plus-requires-3
-    slice-write-labels
     add-i
     loop-less
     loop-again
-    same-length
     returns)
