@@ -1,5 +1,5 @@
 -- A range measured in one pass: the bins of the pixels passed are kept and counted. Assumes nothing.
-use Prim.Native.Nat.{ℕ, _+_, _≤_, _<_}
+use Prim.Native.Nat.{ℕ, _+_, _*_, _≤_, _<_}
 use mathlib.Core.Path.{_≡_, refl, sym, ap, _∙_}
 use mathlib.Core.Bool.{false}
 use mathlib.Core.List.{List}
@@ -9,7 +9,8 @@ use lib.Seq.{take-all, length-take-le}
 use Rattle.lists.specs.Lists.{over}
 use Rattle.lists.proofs.Buffers.{over-none, over-next, over-done}
 use Rattle.pixel.specs.declared.Pixel.{Pixel}
-use Rattle.pixel.specs.Colour.{isGrey, huePoint, hueOf, hueBin}
+use Rattle.pixel.specs.declared.Turned.{Turned}
+use Rattle.pixel.specs.Colour.{isGrey, huePoint, turnedOf, tangentsPassed, hueOf, hueBin}
 use Rattle.palette.specs.Levels.{Level, binCount, binOf}
 use Rattle.palette.specs.Cards.{pixelsOf}
 use Rattle.palette.specs.Sound.{pixelAt}
@@ -21,9 +22,10 @@ use Rattle.dividing.proofs.Tallies.{tally-le, tally-none, tally-more}
 use Rattle.dividing.proofs.Ranges.{bins-length, bins-at}
 
 -- a colour's hue needs no test for grey
-pub coloured-hue : (p q : Pixel) (bin : ℕ) → p ≡ q → isGrey q ≡ false → bin ≡ hueOf (huePoint p) → bin ≡ hueBin p
-unfolding hueBin
-coloured-hue p q bin e g b = rw (ap isGrey e ∙ g) b
+pub coloured-hue : (p q : Pixel) (t : Turned) (bin : ℕ) → p ≡ q → isGrey q ≡ false → t ≡ turnedOf (huePoint p) → bin ≡ 15 * t .quarter + tangentsPassed (t .a) (t .b)
+    → bin ≡ hueBin p
+unfolding hueBin hueOf
+coloured-hue p q t bin e g turned b = rw (ap isGrey e ∙ g, sym turned) b
 
 -- after i pixels of the range
 pub record Passed (bytes : List ℕ) (l : Level) (xs lent : List ℕ) (i : ℕ) (keys h : List ℕ) : Type 0 where

@@ -3,6 +3,7 @@ use pixel::Pixel;
 use pixel::hue_of;
 use pixel::intensity_bin;
 use pixel::saturation_bin;
+use pixel::turned_back;
 ghost use mathlib.Core.Path.{_≡_};
 ghost use Prim.Native.Nat.{_*_, _+_, _<_, _≤_};
 ghost use lib.ListN.{length};
@@ -30,8 +31,7 @@ pub fn hue_histogram(pixels: &[u8], order: &[u16], keys: &mut [u8]) -> [u32; 60]
     let mut h = [0u32; 60];
     let mut i = 0;
     while i < order.len() {
-        let p = pixel_at(pixels, order[i] as usize);
-        let bin = hue_of(p.red, p.green, p.blue);
+        let bin = hue_of(turned_back(pixel_at(pixels, order[i] as usize)));
         keys[i] = bin;
         let k = bin as usize;
         h[k] = h[k] + 1;

@@ -7,6 +7,7 @@ use lib.IntN.{pos, subℕ, negℤ-negℤ}
 use native.Mathlib.Omega.{arith}
 use native.Mathlib.Nat.{mul-sub, le-of-lt}
 use borrow.Author.Tests.{ltb-true, ltb-false, leb-true, leb-false, lt-ltb, le-ltb, le-leb}
+use Rattle.lists.proofs.Cases.{by-cond}
 use Rattle.lists.proofs.Differences.{diff-positive, diff-nonnegative, diff-negative, diff-nonpositive, diff-above, diff-below}
 use Rattle.pixel.specs.declared.Pixel.{Pixel}
 use Rattle.pixel.specs.Colour.{Point, huePoint, quarter, turnedBack, turnedOf}
@@ -62,26 +63,36 @@ module _ (m n k l : ℕ) where
       first true e = rw (le-ltb n m (f (leb-true l k e)))
       first false e = rw e (and-false (ltb n m))
 
--- ---- halves: of the point (g − b, s − t), where neither is large
+-- ---- halves: of the point (g − b, s − t)
 apart-above : (m n : ℕ) → n ≤ m → m - n + (n - m) ≡ m - n
 apart-above m n h = omega arith
 
 apart-below : (m n : ℕ) → m ≤ n → m - n + (n - m) ≡ n - m
 apart-below m n h = omega arith
 
-module _ (g b s t : ℕ) (small : (g ≤ 255) × (b ≤ 255) × (s ≤ 510) × (t ≤ 510)) where
-  upper-right : 256 * t + b < 256 * s + g → 512 * b + s ≤ 512 * g + t → (b < g) × (t ≤ s)
-  upper-right w l = (omega arith, omega arith)
+-- the 1 that decides a tie, as arithmetic
+one-is : (x bar : ℕ) → cond (leb bar x) 1 0 ≡ 1 - (bar - x)
+one-is x bar = by-cond (λ (n : ℕ). n ≡ 1 - (bar - x)) (leb bar x) 1 0 (λ e. omega (arith, leb-true bar x e)) (λ e. omega (arith, leb-false bar x e))
 
-  upper-left : 256 * t + b < 256 * s + g → 512 * g + t < 512 * b + s → (g ≤ b) × (t < s)
-  upper-left w l = (omega arith, omega arith)
+module _ (g b s t x y : ℕ) (ex : x ≡ cond (leb (b + 1) g) 1 0) (ey : y ≡ cond (leb s t) 1 0) where
+  x-is : x ≡ 1 - (b + 1 - g)
+  x-is = ex ∙ one-is g (b + 1)
 
-  lower-left : 256 * s + g ≤ 256 * t + b → 512 * g + t < 512 * b + s → (g < b) × (s ≤ t)
-  lower-left w l = (omega arith, omega arith)
+  y-is : y ≡ 1 - (s - t)
+  y-is = ey ∙ one-is t s
+
+  upper-right : t < s + x → b < g + y → (b < g) × (t ≤ s)
+  upper-right w l = (omega (arith, x-is, y-is), omega (arith, x-is, y-is))
+
+  upper-left : t < s + x → g + y ≤ b → (g ≤ b) × (t < s)
+  upper-left w l = (omega (arith, x-is, y-is), omega (arith, x-is, y-is))
+
+  lower-left : s + x ≤ t → g + y ≤ b → (g < b) × (s ≤ t)
+  lower-left w l = (omega (arith, x-is, y-is), omega (arith, x-is, y-is))
 
   -- the origin too
-  lower-right : 256 * s + g ≤ 256 * t + b → 512 * b + s ≤ 512 * g + t → (b ≤ g) × (s ≤ t) × (t ≤ s → g ≤ b)
-  lower-right w l = (omega arith, omega arith, λ e. omega arith)
+  lower-right : s + x ≤ t → b < g + y → (b ≤ g) × (s ≤ t) × (t ≤ s → g ≤ b)
+  lower-right w l = (omega (arith, x-is, y-is), omega (arith, x-is, y-is), λ e. omega (arith, x-is, y-is))
 
 -- ---- the point of a pixel
 module _ (p : Pixel) where
@@ -114,26 +125,27 @@ module _ (p : Pixel) where
       (turns-3 (1732051 * p .green) (1732051 * p .blue) (1000000 * (p .green + p .blue)) (1000000 * (2 * p .red)) (omega arith) (omega arith) (λ e. omega (arith, f (omega arith))))
 
   -- by the halves that it lies in, upper or lower and right or left
-  pub turned-by-halves : (u v : ℕ) (upper right : Bool) → (p .red ≤ 255) × (p .green ≤ 255) × (p .blue ≤ 255)
-      → u ≡ 1732051 * (p .green - p .blue + (p .blue - p .green))
+  pub turned-by-halves : (u v x y : ℕ) (upper right : Bool) → u ≡ 1732051 * (p .green - p .blue + (p .blue - p .green))
       → v ≡ 1000000 * (p .green + p .blue - 2 * p .red + (2 * p .red - (p .green + p .blue)))
-      → ltb (256 * (2 * p .red) + p .blue) (256 * (p .green + p .blue) + p .green) ≡ upper
-      → leb (512 * p .blue + (p .green + p .blue)) (512 * p .green + 2 * p .red) ≡ right
+      → x ≡ cond (leb (p .blue + 1) (p .green)) 1 0
+      → y ≡ cond (leb (p .green + p .blue) (2 * p .red)) 1 0
+      → ltb (2 * p .red) (p .green + p .blue + x) ≡ upper
+      → ltb (p .blue) (p .green + y) ≡ right
       → let odd = cond upper (not right) right in
       turnedOf (huePoint p) ≡ record { quarter = cond upper 0 2 + cond odd 1 0; a = cond odd v u; b = cond odd u v }
-  turned-by-halves u v true true (hr, hg, hb) eu ev i j =
-      let o = upper-right (p .green) (p .blue) (p .green + p .blue) (2 * p .red) (hg, hb, omega arith, omega arith) (ltb-true _ _ i) (leb-true _ _ j) in
+  turned-by-halves u v x y true true eu ev ex ey i j =
+      let o = upper-right (p .green) (p .blue) (p .green + p .blue) (2 * p .red) x y ex ey (ltb-true _ _ i) (ltb-true _ _ j) in
       rw (eu, ev, apart-above (p .green) (p .blue) (le-of-lt (o .0)), apart-above (p .green + p .blue) (2 * p .red) (o .1))
       (turned-of (huePoint p) 0 _ _ (hue-turns-0 (o .0) (o .1)))
-  turned-by-halves u v true false (hr, hg, hb) eu ev i j =
-      let o = upper-left (p .green) (p .blue) (p .green + p .blue) (2 * p .red) (hg, hb, omega arith, omega arith) (ltb-true _ _ i) (leb-false _ _ j) in
+  turned-by-halves u v x y true false eu ev ex ey i j =
+      let o = upper-left (p .green) (p .blue) (p .green + p .blue) (2 * p .red) x y ex ey (ltb-true _ _ i) (ltb-false _ _ j) in
       rw (eu, ev, apart-below (p .green) (p .blue) (o .0), apart-above (p .green + p .blue) (2 * p .red) (le-of-lt (o .1)))
       (turned-of (huePoint p) 1 _ _ (hue-turns-1 (o .0) (o .1)))
-  turned-by-halves u v false false (hr, hg, hb) eu ev i j =
-      let o = lower-left (p .green) (p .blue) (p .green + p .blue) (2 * p .red) (hg, hb, omega arith, omega arith) (ltb-false _ _ i) (leb-false _ _ j) in
+  turned-by-halves u v x y false false eu ev ex ey i j =
+      let o = lower-left (p .green) (p .blue) (p .green + p .blue) (2 * p .red) x y ex ey (ltb-false _ _ i) (ltb-false _ _ j) in
       rw (eu, ev, apart-below (p .green) (p .blue) (le-of-lt (o .0)), apart-below (p .green + p .blue) (2 * p .red) (o .1))
       (turned-of (huePoint p) 2 _ _ (hue-turns-2 (o .0) (o .1)))
-  turned-by-halves u v false true (hr, hg, hb) eu ev i j =
-      let o = lower-right (p .green) (p .blue) (p .green + p .blue) (2 * p .red) (hg, hb, omega arith, omega arith) (ltb-false _ _ i) (leb-true _ _ j) in
+  turned-by-halves u v x y false true eu ev ex ey i j =
+      let o = lower-right (p .green) (p .blue) (p .green + p .blue) (2 * p .red) x y ex ey (ltb-false _ _ i) (ltb-true _ _ j) in
       rw (eu, ev, apart-above (p .green) (p .blue) (o .0), apart-below (p .green + p .blue) (2 * p .red) (o .1))
       (turned-of (huePoint p) 3 _ _ (hue-turns-3 (o .0) (o .1) (o .2)))

@@ -15,7 +15,6 @@ ghost use Rattle.pixel.specs.Colour.{
   tangentsPassed,
   huePoint,
   turnedOf,
-  hueOf,
   hueBin,
   measuresOf,
 };
@@ -35,10 +34,10 @@ pub struct Measures {
 }
 
 // A hue point turned back by its quarter to (a, b).
-struct Turned {
-    quarter: u32,
-    a: u32,
-    b: u32,
+pub struct Turned {
+    pub quarter: u32,
+    pub a: u32,
+    pub b: u32,
 }
 
 // A straight line that approximates the square root over one stretch of numbers, in 1024ths.
@@ -209,9 +208,9 @@ fn differ(a: bool, b: bool) -> bool
 }
 
 // The hue point, u = 1732051·(G−B) and v = 1000000·(G+B−2R), turned back. It lies in the upper half where v > 0, or v = 0 and u > 0, and in the right
-// half where u > 0, or u = 0 and v ≤ 0. One test decides each, since |G−B| is below 256 and |G+B−2R| below 512. Nothing here branches: with the noise
-// of a cloth, branches would often be mispredicted.
-fn turned_back(p: Pixel) -> Turned
+// half where u > 0, or u = 0 and v ≤ 0. Adding 1 to the larger side decides the tie. Nothing here branches: with the noise of a cloth, branches would often
+// be mispredicted.
+pub fn turned_back(p: Pixel) -> Turned
     ensures { λ r. ⌜ r ≡ turnedOf (huePoint p) ⌝ }
 {
     let g = p.green as u32;
@@ -220,8 +219,8 @@ fn turned_back(p: Pixel) -> Turned
     let twice = 2 * p.red as u32;
     let u = 1732051 * apart(g, b);
     let v = 1000000 * apart(sum, twice);
-    let upper = 256 * twice + b < 256 * sum + g;
-    let right = 512 * b + sum <= 512 * g + twice;
+    let upper = twice < sum + at_least(g, b + 1);
+    let right = b < g + at_least(twice, sum);
     let odd = differ(upper, right);
     Turned {
         quarter: chosen(upper, 0, 2) + chosen(odd, 1, 0),
@@ -230,11 +229,11 @@ fn turned_back(p: Pixel) -> Turned
     }
 }
 
-// The hue bin of a coloured pixel. Its channels come singly, since a struct would go through memory at every call.
-pub fn hue_of(red: u8, green: u8, blue: u8) -> u8
-    ensures { λ r. ⌜ r ≡ hueOf (huePoint (record { red = red; green = green; blue = blue })) ⌝ }
+// The hue bin of a coloured pixel. The turn is a call of its own: two small functions are put into a caller's loop, where one large one would be called.
+pub fn hue_of(t: Turned) -> u8
+    requires { ⌜ t .quarter ≤ 3 ⌝ }
+    ensures { λ r. ⌜ r ≡ 15 * t .quarter + tangentsPassed (t .a) (t .b) ⌝ }
 {
-    let t = turned_back(Pixel { red, green, blue });
     (15 * t.quarter + tangents_passed(t.a, t.b)) as u8
 }
 
@@ -245,7 +244,7 @@ pub fn hue_bin(p: Pixel) -> u8
     if is_grey(p) {
         0
     } else {
-        hue_of(p.red, p.green, p.blue)
+        hue_of(turned_back(p))
     }
 }
 

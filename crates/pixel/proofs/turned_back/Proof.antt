@@ -34,29 +34,20 @@ apart-requires-2 c κs = search needs
 mul-v : tie.Need-mul-v
 mul-v c = search needs
 
-mul-upper : tie.Need-mul-upper
-mul-upper c = search needs
+add-at-least : tie.Need-add-at-least
+add-at-least c = search needs
+
+at-least-requires : tie.Need-at-least-requires
+at-least-requires c κs = search needs
 
 add-upper : tie.Need-add-upper
 add-upper c = search needs
 
-mul-upper-2 : tie.Need-mul-upper-2
-mul-upper-2 c = search needs
-
-add-upper-2 : tie.Need-add-upper-2
-add-upper-2 c = search needs
-
-mul-right : tie.Need-mul-right
-mul-right c = search needs
+at-least-requires-2 : tie.Need-at-least-requires-2
+at-least-requires-2 c κs = search needs
 
 add-right : tie.Need-add-right
 add-right c = search needs
-
-mul-right-2 : tie.Need-mul-right-2
-mul-right-2 c = search needs
-
-add-right-2 : tie.Need-add-right-2
-add-right-2 c = search needs
 
 differ-requires : tie.Need-differ-requires
 differ-requires c κs = search needs
@@ -67,8 +58,8 @@ chosen-requires c κs = search needs
 chosen-requires-2 : tie.Need-chosen-requires-2
 chosen-requires-2 c κs = search needs
 
-add-t13 : tie.Need-add-t13
-add-t13 c = search needs
+add-t11 : tie.Need-add-t11
+add-t11 c = search needs
 
 chosen-requires-3 : tie.Need-chosen-requires-3
 chosen-requires-3 c κs = search needs
@@ -79,12 +70,14 @@ chosen-requires-4 c κs = search needs
 returns : tie.Need-returns
 returns c =
     let o = c .before .before .before .before in
-    let u = o .before .before .apart in
-    let v = o .before .apart2 in
-    let p = o .before .before .before .before .before .before .args .p in
+    let y = o .before .at-least2 in
+    let x = o .before .before .at-least in
+    let v = o .before .before .before .apart2 in
+    let u = o .before .before .before .before .apart in
+    let p = o .before .before .before .before .before .before .before .before .args .p in
     rw (c .chosen4 .ensures .0, c .before .chosen3 .ensures .0, c .before .before .chosen2 .ensures .0, c .before .before .before .chosen .ensures .0, o .differ .ensures)
-    (sym (turned-by-halves p (1732051 * u .result) (1000000 * v .result) _ _ (omega arith, omega arith, omega arith)
-    (omega (arith, u .ensures)) (omega (arith, v .ensures)) refl refl))
+    (sym (turned-by-halves p (1732051 * u .result) (1000000 * v .result) (x .result) (y .result) _ _
+    (omega (arith, u .ensures)) (omega (arith, v .ensures)) (x .ensures .0) (y .ensures .0) refl refl))
 
 pub turned-back-spec : {M : Type 1} → statement M
 turned-back-spec =
@@ -99,18 +92,15 @@ turned-back-spec =
     mul-u
     apart-requires-2
     mul-v
-    mul-upper
+    add-at-least
+    at-least-requires
     add-upper
-    mul-upper-2
-    add-upper-2
-    mul-right
+    at-least-requires-2
     add-right
-    mul-right-2
-    add-right-2
     differ-requires
     chosen-requires
     chosen-requires-2
-    add-t13
+    add-t11
     chosen-requires-3
     chosen-requires-4
     returns)

@@ -4,7 +4,8 @@ use native.Mathlib.Omega.{arith}
 use borrow.Author.Needs.{needs}
 use mathlib.Core.Path.{_≡_}
 use lib.ListN.{length, getD}
-use Rattle.pixel.specs.Colour.{hueBin}
+use Rattle.pixel.specs.Colour.{huePoint, hueBin}
+use Rattle.pixel.proofs.Hue.{turned-quarter-le}
 use Rattle.palette.specs.Levels.{hue}
 use Rattle.palette.specs.Cards.{pixelsOf}
 use Rattle.palette.specs.Sound.{pixelAt, mostPixels}
@@ -20,7 +21,7 @@ abbrev μ-loop : tie.MeasureT-loop
 
 -- the way from a turn to its beginning, and to the call
 abbrev turn : tie.After-hue-of Inv-loop μ-loop → tie.At-loop Inv-loop μ-loop
-turn c = c .before .before .before .before
+turn c = c .before .before .before .before .before
 
 abbrev entry : tie.At-loop Inv-loop μ-loop → tie.Start Inv-loop μ-loop
 entry c = c .before .before .before .before
@@ -28,26 +29,26 @@ entry c = c .before .before .before .before
 byte : (c : tie.At-loop Inv-loop μ-loop) (j : ℕ) → getD (entry c .args .pixels .now) j 0 < 256
 byte c j = let known = c .before .before .before .shared-slice-known .given j in omega arith
 
-hue-is : (c : tie.After-hue-of Inv-loop μ-loop) → c .hue-of .result ≡ hueBin (c .before .pixel-at .result)
+hue-is : (c : tie.After-hue-of Inv-loop μ-loop) → c .hue-of .result ≡ hueBin (c .before .before .pixel-at .result)
 hue-is c =
     let e = entry (turn c) in
     let i = turn c .loop .i in
-    coloured-hue (c .before .pixel-at .result) (pixelAt (pixelsOf (e .args .pixels .now)) (getD (e .args .order .now) i 0)) (c .hue-of .result) (c .before .pixel-at .ensures)
-    (e .pre .3 i (c .before .before .before .loop-test .taken)) (c .hue-of .ensures)
+    coloured-hue (c .before .before .pixel-at .result) (pixelAt (pixelsOf (e .args .pixels .now)) (getD (e .args .order .now) i 0)) (c .before .turned-back .result) (c .hue-of .result) (c .before .before .pixel-at .ensures)
+    (e .pre .3 i (c .before .before .before .before .loop-test .taken)) (c .before .turned-back .ensures) (c .hue-of .ensures)
 
 below : (c : tie.After-hue-of Inv-loop μ-loop) → c .hue-of .result < 60
 below c =
     let a = entry (turn c) .args in
     let l = turn c .loop in
-    passed-below (a .pixels .now) (byte (turn c)) hue (a .order .now) (a .keys .now) (entry (turn c) .pre .0) (l .i) (l .keys) (l .h) (l .inv) (c .before .before .before .loop-test .taken)
-    (c .before .pixel-at .result) (c .before .pixel-at .ensures) (c .hue-of .result) (hue-is c)
+    passed-below (a .pixels .now) (byte (turn c)) hue (a .order .now) (a .keys .now) (entry (turn c) .pre .0) (l .i) (l .keys) (l .h) (l .inv) (c .before .before .before .before .loop-test .taken)
+    (c .before .before .pixel-at .result) (c .before .before .pixel-at .ensures) (c .hue-of .result) (hue-is c)
 
 few : (c : tie.After-hue-of Inv-loop μ-loop) → getD (turn c .loop .h) (c .hue-of .result) 0 ≤ length (entry (turn c) .args .order .now)
 few c =
     let a = entry (turn c) .args in
     let l = turn c .loop in
-    passed-few (a .pixels .now) (byte (turn c)) hue (a .order .now) (a .keys .now) (entry (turn c) .pre .0) (l .i) (l .keys) (l .h) (l .inv) (c .before .before .before .loop-test .taken)
-    (c .before .pixel-at .result) (c .before .pixel-at .ensures) (c .hue-of .result) (hue-is c)
+    passed-few (a .pixels .now) (byte (turn c)) hue (a .order .now) (a .keys .now) (entry (turn c) .pre .0) (l .i) (l .keys) (l .h) (l .inv) (c .before .before .before .before .loop-test .taken)
+    (c .before .before .pixel-at .result) (c .before .before .pixel-at .ensures) (c .hue-of .result) (hue-is c)
 
 loop-holds : tie.Need-loop-holds Inv-loop μ-loop
 loop-holds c =
@@ -66,8 +67,11 @@ cast-pixel-at c = omega (arith, c .shared-slice-known3 .given (c .before .before
 pixel-at-requires : tie.Need-pixel-at-requires Inv-loop μ-loop
 pixel-at-requires c κs = entry (c .before .before) .pre .2 (c .before .before .loop .i) (omega arith)
 
+turned-back-requires : tie.Need-turned-back-requires Inv-loop μ-loop
+turned-back-requires c κs = search needs
+
 hue-of-requires : tie.Need-hue-of-requires Inv-loop μ-loop
-hue-of-requires c κs = search needs
+hue-of-requires c κs = rw (c .turned-back .ensures) (turned-quarter-le (huePoint (c .before .pixel-at .result)))
 
 slice-write-keys : tie.Need-slice-write-keys Inv-loop μ-loop
 slice-write-keys c = search needs
@@ -101,8 +105,8 @@ loop-again : tie.Need-loop-again Inv-loop μ-loop
 loop-again c =
     let a = entry (turn c) .args in
     let l = turn c .loop in
-    passed-more (a .pixels .now) (byte (turn c)) hue (a .order .now) (a .keys .now) (entry (turn c) .pre .0) (l .i) (l .keys) (l .h) (l .inv) (c .before .before .before .loop-test .taken)
-    (c .before .pixel-at .result) (c .before .pixel-at .ensures) (c .hue-of .result) (hue-is c)
+    passed-more (a .pixels .now) (byte (turn c)) hue (a .order .now) (a .keys .now) (entry (turn c) .pre .0) (l .i) (l .keys) (l .h) (l .inv) (c .before .before .before .before .loop-test .taken)
+    (c .before .before .pixel-at .result) (c .before .before .pixel-at .ensures) (c .hue-of .result) (hue-is c)
 
 same-length : tie.Need-same-length Inv-loop μ-loop
 same-length c = c .before .loop .inv .long
@@ -124,6 +128,7 @@ hue-histogram-spec =
     shared-slice-read-pixel-at
     cast-pixel-at
     pixel-at-requires
+    turned-back-requires
     hue-of-requires
     slice-write-keys
     cast-k
