@@ -22,8 +22,8 @@ use Rattle.palette.specs.Sound.{pixelAt}
 use Rattle.palette.proofs.OneBranch.{one-branch}
 use Rattle.palette.proofs.OneEntry.{branchAt, entries-length}
 use Rattle.dividing.specs.Splitting.{numbersOf}
-use Rattle.making.specs.Making.{rangeOf, labelled, labelsBy, RangesLaid, BranchesLaid, labelsLeft}
-use Rattle.making.proofs.Laid.{next-start, part-is, below, range-at}
+use Rattle.making.specs.Making.{rangeOf, labelled, labelsBy, RangesLaid, labelsLeft}
+use Rattle.making.proofs.Laid.{BranchesLaid, next-start, part-is, below, range-at}
 
 -- ---- one entry's label
 labelled-length : (k : ℕ) (xs lent : List ℕ) → length (labelled k xs lent) ≡ length lent
@@ -111,18 +111,18 @@ pub record LabelsGiven (xs sizes lent : List ℕ) (n k at : ℕ) (now : List ℕ
   pub long : length now ≡ length lent
   pub given : now ≡ labelsBy sizes xs k lent
 
-pub given-more : (xs sizes lent : List ℕ) (n : ℕ) → RangesLaid xs sizes n → (k at : ℕ) (now : List ℕ) → LabelsGiven xs sizes lent n k at now → k < n
+pub given-more : (xs sizes lent : List ℕ) (n pixels : ℕ) → RangesLaid xs sizes n pixels → (k at : ℕ) (now : List ℕ) → LabelsGiven xs sizes lent n k at now → k < n
     → (next : List ℕ) → next ≡ labelled k (take (at + getD sizes k 0 - at) (drop at xs)) now → LabelsGiven xs sizes lent n (k + 1) (at + getD sizes k 0) next
 unfolding labelsBy
-given-more xs sizes lent n r k at now g more next q = record {
+given-more xs sizes lent n pixels r k at now g more next q = record {
   within = omega arith;
-  start = next-start xs sizes n r k at (g .start) more;
+  start = next-start xs sizes n pixels r k at (g .start) more;
   long = ap length q ∙ labelled-length k _ now ∙ g .long;
-  given = q ∙ ap₂ (labelled k) (part-is xs sizes n r k at (g .start) more) (g .given) ∙ ap (λ (j : ℕ). labelsBy sizes xs j lent) (sym (add-one k));
+  given = q ∙ ap₂ (labelled k) (part-is xs sizes n pixels r k at (g .start) more) (g .given) ∙ ap (λ (j : ℕ). labelsBy sizes xs j lent) (sym (add-one k));
 }
 
 -- ---- the labels of all entries
-module _ (e : Closeness) (ps : List Pixel) (bytes : Each Bytes ps) (xs sizes : List ℕ) (n : ℕ) (d : BranchesLaid e ps xs sizes n) (lent : List ℕ) (same : length lent ≡ length ps) where
+module _ (e : Closeness) (ps : List Pixel) (bytes : Each Bytes ps) (xs rest sizes : List ℕ) (n : ℕ) (d : BranchesLaid e ps xs rest sizes n) (lent : List ℕ) (same : length lent ≡ length ps) where
   one : (i : ℕ) → i < length ps → countIf (λ (c : Branch). c .has (pixelAt ps i)) (branches e ps) ≡ 1
   one i l = each-at (λ p. countIf (λ (c : Branch). c .has p) (branches e ps) ≡ 1) ps (record { red = 0; green = 0; blue = 0 }) (one-branch e ps bytes) i l
 
@@ -131,8 +131,8 @@ module _ (e : Closeness) (ps : List Pixel) (bytes : Each Bytes ps) (xs sizes : L
   label-at zero i l m h = absurd (omega arith)
   label-at (suc k) i l m h =
       let has : Branch → Bool = λ b. b .has (pixelAt ps i) in
-      let here = passes-at-first has (branches e ps) allGreys (one i l) k (below e ps xs sizes n d k (omega arith)) in
-      ap (λ (z : List ℕ). getD (labelled k z (labelsBy sizes xs k lent)) i 0) (range-at e ps xs sizes n d k (omega arith))
+      let here = passes-at-first has (branches e ps) allGreys (one i l) k (below e ps xs rest sizes n d k (omega arith)) in
+      ap (λ (z : List ℕ). getD (labelled k z (labelsBy sizes xs k lent)) i 0) (range-at e ps xs rest sizes n d k (omega arith))
       ∙ branch-labelled ps (branchAt e ps k) k (labelsBy sizes xs k lent) i (labels-by-length sizes xs k lent ∙ same) l
       ∙ go (eqb k j) refl here (λ o. label-at k i l (omega arith) o)
     where

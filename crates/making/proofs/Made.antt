@@ -28,12 +28,12 @@ pub record Made (bytes xs codes sizes : List ℕ) (n : ℕ) (blank : List Entry)
   pub made : es ≡ over (take k (entriesBy n codes sizes xs (pixelsOf bytes))) blank
 
 -- one entry more
-module _ (bytes xs codes sizes : List ℕ) (n : ℕ) (r : RangesLaid xs sizes n) (blank : List Entry) (k at : ℕ) (es : List Entry) (m : Made bytes xs codes sizes n blank k at es) (more : k < n)
+module _ (bytes xs codes sizes : List ℕ) (n pixels : ℕ) (r : RangesLaid xs sizes n pixels) (blank : List Entry) (k at : ℕ) (es : List Entry) (m : Made bytes xs codes sizes n blank k at es) (more : k < n)
     (sums : Sums) (q : sums ≡ sumsOf (pixelsOf bytes) (take (at + getD sizes k 0 - at) (drop at xs))) where
   pub part-few : ((j : ℕ) → getD bytes j 0 < 256) → SumsFew sums (getD sizes k 0)
   part-few byte =
       let few = sums-few (pixelsOf bytes) (take (at + getD sizes k 0 - at) (drop at xs)) (pixels-bytes bytes byte) in
-      let long = part-long xs sizes n r k at (m .start) more in
+      let long = part-long xs sizes n pixels r k at (m .start) more in
       record {
         red = omega (arith, ap (λ (s : Sums). s .red) q, few .red);
         green = omega (arith, ap (λ (s : Sums). s .green) q, few .green);
@@ -48,11 +48,11 @@ module _ (bytes xs codes sizes : List ℕ) (n : ℕ) (r : RangesLaid xs sizes n)
       let figured : ℕ → Entry = λ j. entryBy (getD codes j 0) (getD sizes j 0) (sumsOf ps (rangeOf sizes xs j)) in
       let all = entriesBy n codes sizes xs ps in
       let long = entries-long n codes sizes xs ps in
-      let own = q ∙ ap (sumsOf ps) (part-is xs sizes n r k at (m .start) more) in
+      let own = q ∙ ap (sumsOf ps) (part-is xs sizes n pixels r k at (m .start) more) in
       let is : entry ≡ getD all k noEntry = e ∙ ap (entryBy (getD codes k 0) (getD sizes k 0)) own ∙ sym (table-at figured n k noEntry more) in
       record {
         within = omega arith;
-        start = next-start xs sizes n r k at (m .start) more;
+        start = next-start xs sizes n pixels r k at (m .start) more;
         room = simp length-set (m .room);
         made = ap (λ (z : List Entry). set z k entry) (m .made) ∙ over-next all blank noEntry k entry (omega arith) (omega arith) is;
       }

@@ -2,16 +2,15 @@
 use Prim.Native.Nat.{ℕ, zero, suc, _+_, _*_, _/_, _%_, _^_, _≤_, _<_}
 use mathlib.Core.Path.{_≡_}
 use mathlib.Core.Bool.{Bool, cond}
-use mathlib.Core.List.{List, [], _∷_, map, flatMap}
+use mathlib.Core.List.{List, [], _∷_, map}
 use lib.Dec.{leb}
 use lib.ListN.{length, take, drop, getD, set}
 use Rattle.lists.specs.Lists.{total, numbers, padded}
 use Rattle.pixel.specs.declared.Pixel.{Pixel}
 use Rattle.verdict.specs.Test.{Closeness}
 use Rattle.palette.specs.declared.Entry.{Entry}
-use Rattle.palette.specs.Cards.{branches, entries, labels, mostEntries, noEntry}
+use Rattle.palette.specs.Cards.{entries, labels, mostEntries, noEntry}
 use Rattle.palette.specs.Sound.{pixelAt, mostPixels}
-use Rattle.dividing.specs.Splitting.{AllIn, numbersOf}
 use Rattle.making.specs.declared.CardEntries.{CardEntries}
 use Rattle.making.specs.declared.Sums.{Sums}
 
@@ -56,30 +55,24 @@ unfoldable pub labelsBy : (sizes xs : List ℕ) → ℕ → List ℕ → List �
 labelsBy sizes xs zero lent = lent
 labelsBy sizes xs (suc k) lent = labelled k (rangeOf sizes xs k) (labelsBy sizes xs k lent)
 
--- the first n sizes, which a card may hold, are those of ranges that lie among the numbers
-pub record RangesLaid (xs sizes : List ℕ) (n : ℕ) : Type 0 where
+-- n ranges that a card may hold, one after the other, of the numbers of so many pixels
+pub record RangesLaid (xs sizes : List ℕ) (n pixels : ℕ) : Type 0 where
   pub few : n ≤ mostEntries
   pub sized : n ≤ length sizes
   pub whole : total (take n sizes) ≤ length xs
+  pub inside : (i : ℕ) → i < total (take n sizes) → getD xs i 0 < pixels
 
 -- what making n entries relies on
 pub record FiguresLaid (bytes xs codes sizes : List ℕ) (n : ℕ) : Type 0 where
-  pub ranges : RangesLaid xs sizes n
-  pub many : length xs ≤ mostPixels
-  pub inside : AllIn xs bytes
+  pub ranges : RangesLaid xs sizes n (length bytes / 3)
+  pub many : total (take n sizes) ≤ mostPixels
   pub coded : n ≤ length codes
   pub small : (k : ℕ) → k < n → getD codes k 0 < 2 ^ 19
   pub filled : (k : ℕ) → k < n → 0 < getD sizes k 0
 
--- the numbers of the pixels branch by branch, and how many each of the n branches has
-pub record BranchesLaid (e : Closeness) (ps : List Pixel) (xs sizes : List ℕ) (n : ℕ) : Type 0 where
-  pub count : n ≡ length (branches e ps)
-  pub order : xs ≡ flatMap (numbersOf ps) (branches e ps)
-  pub lengths : take n sizes ≡ map (λ b. length (numbersOf ps b)) (branches e ps)
-
--- the entries where a card may hold so many
-unfoldable pub entriesMade : (n : ℕ) (codes sizes xs : List ℕ) → List Pixel → CardEntries
-entriesMade n codes sizes xs ps = record { total = n; entries = padded mostEntries noEntry (cond (leb n mostEntries) (entriesBy n codes sizes xs ps) []) }
+-- how many of n entries a card holds: none where they are too many
+unfoldable pub heldOf : ℕ → ℕ
+heldOf n = cond (leb n mostEntries) n 0
 
 -- whether a card may hold all entries
 abbrev pub fits : Closeness → List Pixel → Bool
@@ -91,3 +84,8 @@ cardEntries e ps = record { total = length (entries e ps); entries = padded most
 -- the labels as they are left
 unfoldable pub labelsLeft : Closeness → List Pixel → List ℕ → List ℕ
 labelsLeft e ps lent = cond (fits e ps) (labels e ps) lent
+
+-- what writing the labels relies on, and that they are then as they should be left
+pub record LabelsLaid (e : Closeness) (ps : List Pixel) (xs sizes : List ℕ) (n : ℕ) : Type 0 where
+  pub ranges : RangesLaid xs sizes n (length ps)
+  pub given : (lent : List ℕ) → length lent ≡ length ps → labelsBy sizes xs n lent ≡ labelsLeft e ps lent

@@ -5,31 +5,19 @@ use crate::labels::write_labels;
 use dividing::divide_pixels;
 use palette::MOST_ENTRIES;
 use palette::MOST_PIXELS;
-use palette::no_entries;
 ghost use mathlib.Core.Path.{_≡_};
 ghost use Prim.Native.Nat.{_≤_, _*_, _/_};
-ghost use lib.ListN.{length, take};
+ghost use lib.ListN.{length};
 ghost use Rattle.verdict.specs.Test.{mostCloseness};
 ghost use Rattle.palette.specs.Cards.{pixelsOf, mostEntries};
 ghost use Rattle.palette.specs.Sound.{mostPixels};
-ghost use Rattle.making.specs.Making.{FiguresLaid, BranchesLaid, entriesMade, cardEntries, labelsLeft};
+ghost use Rattle.making.specs.Making.{heldOf, LabelsLaid, cardEntries, labelsLeft};
 
-// The entries of so many, where a card may hold them.
-fn finish(pixels: &[u8], numbers: &[u16], codes: &[u32], sizes: &[u32], total: usize) -> CardEntries
-    requires { ⌜ total ≤ mostPixels ⌝ }
-    requires { ⌜ (total ≤ mostEntries → FiguresLaid (now pixels) (now numbers) (now codes) (now sizes) total) ⌝ }
-    ensures { λ r. ⌜ r ≡ entriesMade total (now (codes .entry)) (now (sizes .entry)) (now (numbers .entry)) (pixelsOf (now (pixels .entry))) ⌝ }
+// How many entries a card holds: none where they are too many, so that no entry is made and no label written.
+fn held(total: usize) -> usize
+    ensures { λ r. ⌜ r ≡ heldOf total ⌝ }
 {
-    if MOST_ENTRIES < total {
-        return CardEntries {
-            total: total as u32,
-            entries: no_entries(),
-        };
-    }
-    CardEntries {
-        total: total as u32,
-        entries: entries_of(pixels, numbers, codes, sizes, total),
-    }
+    if MOST_ENTRIES < total { 0 } else { total }
 }
 
 // The entries, in lent scratch: at least a place in each list for each pixel, and one for each entry that a card may hold.
@@ -47,7 +35,7 @@ pub fn make_entries(
     requires { ⌜ (length (now pixels) / 3 ≤ length (now order)) × (length (now pixels) / 3 ≤ length (now other)) × (length (now pixels) / 3 ≤ length (now keys))
         × (length (now codes) ≡ mostEntries) × (length (now sizes) ≡ mostEntries) ⌝ }
     ensures { λ r. ⌜ (r ≡ cardEntries closeness (pixelsOf (now (pixels .entry))))
-        × (r .total ≤ mostEntries → BranchesLaid closeness (pixelsOf (now (pixels .entry))) (take (length (now (pixels .entry)) / 3) (now (order .exit))) (now (sizes .exit)) (r .total)) ⌝ }
+        × LabelsLaid closeness (pixelsOf (now (pixels .entry))) (now (order .exit)) (now (sizes .exit)) (heldOf (r .total)) ⌝ }
 {
     let n = pixels.len() / 3;
     let total = divide_pixels(
@@ -59,33 +47,10 @@ pub fn make_entries(
         codes,
         sizes,
     );
-    finish(pixels, &order[..n], codes, sizes, total)
-}
-
-// The entries and the labels, in lent scratch: labels are written once the card is known to hold its entries.
-fn card_of(
-    pixels: &[u8],
-    closeness: u32,
-    labels: &mut [u8],
-    order: &mut [u16],
-    other: &mut [u16],
-    keys: &mut [u8],
-    codes: &mut [u32],
-    sizes: &mut [u32],
-) -> CardEntries
-    requires { ⌜ (length (now pixels) ≡ 3 * length (now labels)) × (length (now labels) ≤ mostPixels) × (closeness ≤ mostCloseness) ⌝ }
-    requires { ⌜ (length (now labels) ≤ length (now order)) × (length (now labels) ≤ length (now other)) × (length (now labels) ≤ length (now keys))
-        × (length (now codes) ≡ mostEntries) × (length (now sizes) ≡ mostEntries) ⌝ }
-    ensures { λ r. ⌜ (r ≡ cardEntries closeness (pixelsOf (now (pixels .entry))))
-        × (now (labels .exit) ≡ labelsLeft closeness (pixelsOf (now (pixels .entry))) (now (labels .entry))) ⌝ }
-{
-    let made = make_entries(pixels, closeness, order, other, keys, codes, sizes);
-    let n = labels.len();
-    let total = made.total as usize;
-    if total <= MOST_ENTRIES {
-        write_labels(&order[..n], sizes, total, labels);
+    CardEntries {
+        total: total as u32,
+        entries: entries_of(pixels, order, codes, sizes, held(total)),
     }
-    made
 }
 
 // The entries and the labels, where a card may hold so many entries; else how many there are, with the labels as lent.
@@ -100,14 +65,15 @@ pub fn make_card(pixels: &[u8], closeness: u32, labels: &mut [u8]) -> CardEntrie
     let mut keys = [0u8; MOST_PIXELS];
     let mut codes = [0u32; MOST_ENTRIES];
     let mut sizes = [0u32; MOST_ENTRIES];
-    card_of(
+    let made = make_entries(
         pixels,
         closeness,
-        labels,
         &mut order,
         &mut other,
         &mut keys,
         &mut codes,
         &mut sizes,
-    )
+    );
+    write_labels(&order, &sizes, held(made.total as usize), labels);
+    made
 }

@@ -19,7 +19,7 @@ fn label_range(numbers: &[u16], label: u8, labels: &mut [u8])
 
 // Each of the n entries labels the next of the numbers, as many as its size says.
 pub fn write_labels(numbers: &[u16], sizes: &[u32], n: usize, labels: &mut [u8])
-    requires { ⌜ RangesLaid (now numbers) (now sizes) n × AllBelow (now numbers) (length (now labels)) ⌝ }
+    requires { ⌜ RangesLaid (now numbers) (now sizes) n (length (now labels)) ⌝ }
     ensures { λ _. ⌜ now (labels .exit) ≡ labelsBy (now (sizes .entry)) (now (numbers .entry)) n (now (labels .entry)) ⌝ }
 {
     let mut at = 0;

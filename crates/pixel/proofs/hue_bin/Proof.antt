@@ -1,5 +1,4 @@
 -- `pixel::hue_bin` meets its contract. Assumes nothing.
-use Prim.Native.Nat.{_≤_}
 use mathlib.Core.Path.{sym, _∙_}
 use borrow.Author.Needs.{needs}
 use Rattle.pixel.specs.Colour.{huePoint, hueOf, hueBin}

@@ -1,6 +1,4 @@
 -- `pixel::hue_of` meets its contract. Assumes nothing.
-use Prim.Native.Nat.{_+_, _*_, _≤_}
-use mathlib.Core.Path.{_≡_, ap}
 use native.Mathlib.Omega.{arith}
 use Rattle.pixel.proofs.Hue.{tangents-passed-le}
 use borrow.Author.Needs.{needs}

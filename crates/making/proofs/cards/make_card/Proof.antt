@@ -1,51 +1,52 @@
 -- `make_card` meets its contract: it makes the scratch and lends it. Assumes nothing.
 use Prim.Native.Nat.{ℕ}
-use mathlib.Core.Path.{refl}
+use mathlib.Core.Path.{refl, sym, _∙_}
 use native.Mathlib.Omega.{arith}
-use lib.ListN.{length-replicate}
+use lib.ListN.{length, length-replicate}
 use Rattle.palette.specs.Cards.{mostEntries}
 use Rattle.palette.specs.Sound.{mostPixels}
+use Rattle.palette.proofs.Triples.{pixels-length}
 use borrow.Author.Needs.{needs}
 use Rattle.making.proofs.cards.make_card.Statement.{statement}
 use Rattle.making.proofs.cards.make_card.Tie as tie
 
-slice-aggregate-card-of : tie.Need-slice-aggregate-card-of
-slice-aggregate-card-of c = search needs
-
-slice-aggregate-card-of-2 : tie.Need-slice-aggregate-card-of-2
-slice-aggregate-card-of-2 c = search needs
-
-slice-aggregate-card-of-3 : tie.Need-slice-aggregate-card-of-3
-slice-aggregate-card-of-3 c = search needs
-
-slice-aggregate-card-of-4 : tie.Need-slice-aggregate-card-of-4
-slice-aggregate-card-of-4 c = search needs
-
-slice-aggregate-card-of-5 : tie.Need-slice-aggregate-card-of-5
-slice-aggregate-card-of-5 c = search needs
-
-card-of-requires : tie.Need-card-of-requires
+make-entries-requires : tie.Need-make-entries-requires
 unfolding mostPixels mostEntries
-card-of-requires c κs =
-    let p = c .before .before .before .before .before .before .before .before .pre in
+make-entries-requires c κs =
+    let p = c .before .before .before .before .before .before .before .pre in
     let wide = length-replicate {A = ℕ} mostPixels 0 in
-    (p, (omega (arith, p .1), omega (arith, p .1), omega (arith, p .1), refl, refl))
+    ((omega (arith, p .0), omega (arith, p .0, p .1), p .2), (omega (arith, p .0, p .1), omega (arith, p .0, p .1), omega (arith, p .0, p .1), refl, refl))
 
-same-length : tie.Need-same-length
-same-length c = search needs
+held-requires : tie.Need-held-requires
+held-requires c κs = search needs
+
+write-labels-requires : tie.Need-write-labels-requires
+write-labels-requires c κs =
+    let s = c .before .before .before .before .before .before .before .before .before .before .before .before .before .before .before .before .before .before in
+    let long = pixels-length (s .args .pixels .now) (length (s .args .labels .now)) (s .pre .0) in
+    rw (c .before .held .ensures, sym long) (c .before .before .before .before .before .before .before .before .before .before .make-entries .ensures .1 .ranges)
 
 returns : tie.Need-returns
-returns c = search needs
+returns c =
+    let s = c .before .before .before .before .before .before .before .before .before .before .before .before .before .before .before .before .before .before .before .before .before in
+    let m = c .before .before .before .before .before .before .before .before .before .before .before .before .before .make-entries in
+    let long = pixels-length (s .args .pixels .now) (length (s .args .labels .now)) (s .pre .0) in
+    (m .ensures .0, rw (c .before .before .before .before .held .ensures) at (c .before .before .write-labels .ensures) ∙ m .ensures .1 .given (s .args .labels .now) (sym long))
 
 pub make-card-spec : {M : Type 1} → statement M
 make-card-spec =
     tie.close
     (tie.spec
-    slice-aggregate-card-of
-    slice-aggregate-card-of-2
-    slice-aggregate-card-of-3
-    slice-aggregate-card-of-4
-    slice-aggregate-card-of-5
-    card-of-requires
-    same-length
+    (λ c. search needs)
+    (λ c. search needs)
+    (λ c. search needs)
+    (λ c. search needs)
+    (λ c. search needs)
+    make-entries-requires
+    (λ c. search needs)
+    (λ c. search needs)
+    (λ c. search needs)
+    held-requires
+    write-labels-requires
+    (λ c. search needs)
     returns)

@@ -1,16 +1,12 @@
 -- `make_entries` meets its contract. Assumes nothing.
-use Prim.Native.Nat.{ℕ, _*_, _/_}
+use Prim.Native.Nat.{ℕ, _*_, _/_, _<_}
 use mathlib.Core.Path.{_≡_, refl, sym, ap, _∙_}
-use mathlib.Core.List.{List, _++_}
+use mathlib.Core.List.{List}
 use native.Mathlib.Omega.{arith}
-use lib.ListN.{length, take, drop}
-use lib.Seq.{length-take-le, take-at}
-use Rattle.lists.proofs.Each.{Each}
-use Rattle.pixel.specs.Ranges.{Bytes}
-use Rattle.palette.specs.Cards.{pixelsOf}
-use Rattle.making.specs.declared.CardEntries.{CardEntries}
-use Rattle.making.specs.Making.{entriesMade}
-use Rattle.making.proofs.Divided.{bytes-each, divided-few, branches-laid, figures-laid, card-made}
+use lib.ListN.{length, drop, getD}
+use lib.Seq.{length-take-le}
+use Rattle.palette.specs.Sound.{mostPixels}
+use Rattle.making.proofs.Divided.{divided-few, figures-laid, labels-laid, card-made}
 use borrow.Author.Needs.{needs}
 use Rattle.making.proofs.cards.make_entries.Statement.{statement}
 use Rattle.making.proofs.cards.make_entries.Tie as tie
@@ -34,12 +30,11 @@ sizes m = m .divide-pixels .last .1 .1 .1 .1 .1 .1 .0
 long : (m : tie.After-divide-pixels) → length (numbers m) ≡ many (entry m)
 long m = m .divide-pixels .kept .1 .1 .0 ∙ length-take-le (many (entry m)) (entry m .args .order .now) (entry m .pre .1 .0)
 
--- the numbers as they are lent again
-front : (m : tie.After-divide-pixels) → take (many (entry m)) (numbers m ++ drop (many (entry m)) (entry m .args .order .now)) ≡ numbers m
-front m = take-at (numbers m) _ (many (entry m)) (long m)
+abbrev rest : tie.After-divide-pixels → List ℕ
+rest m = drop (many (entry m)) (entry m .args .order .now)
 
-bytes : (m : tie.After-divide-pixels) → Each Bytes (pixelsOf (entry m .args .pixels .now))
-bytes m = bytes-each (entry m .args .pixels .now) (λ j. let known = m .before .before .before .before .before .before .before .before .before .before .before .shared-slice-known .given j in omega arith)
+byte : (m : tie.After-divide-pixels) (j : ℕ) → getD (entry m .args .pixels .now) j 0 < 256
+byte m j = let known = m .before .before .before .before .before .before .before .before .before .before .before .shared-slice-known .given j in omega arith
 
 slice-relend-prefix-divide-pixels : tie.Need-slice-relend-prefix-divide-pixels
 slice-relend-prefix-divide-pixels c = search needs
@@ -68,54 +63,38 @@ divide-pixels-requires c κs =
     let z = length-take-le (many s) (s .args .keys .now) (p .1 .2) in
     (p .0 .0 ∙ ap (λ (k : ℕ). 3 * k) (sym x), x ∙ sym y, z ∙ sym x, omega (arith, x, p .0 .0, p .0 .1), p .0 .2)
 
-slice-reshare-prefix-finish : tie.Need-slice-reshare-prefix-finish
-slice-reshare-prefix-finish c = search needs
-
-slice-aggregate-finish : tie.Need-slice-aggregate-finish
-slice-aggregate-finish c = let m = c .before .before .before .before .before .before .before .before .before .before .before in sym (ap length (front m) ∙ long m)
-
-finish-requires : tie.Need-finish-requires
-finish-requires c κs =
-    let m = c .before .before .before .before .before .before .before .before .before .before .before .before .before in
+cast-t21 : tie.Need-cast-t21
+unfolding mostPixels
+cast-t21 c =
+    let m = c .before .before .before .before .before .before .before .before .before .before in
     let a = entry m .args in
     let p = entry m .pre in
-    let ps = pixelsOf (a .pixels .now) in
     let d = m .divide-pixels in
-    rw (front m) (
-      omega (arith, divided-few (a .closeness) ps (bytes m) (a .codes .now) (a .sizes .now) (codes m) (sizes m) (numbers m) (d .result) (d .ensures), long m, p .0 .0, p .0 .1),
-      λ few. figures-laid (a .closeness) ps (bytes m) (a .codes .now) (a .sizes .now) (codes m) (sizes m) (numbers m) (d .result) (d .ensures) (p .1 .3) (p .1 .4) few
-          (a .pixels .now) (many (entry m)) refl (p .0 .0) (omega (arith, long m, p .0 .0, p .0 .1)) (d .kept .1 .1 .1 .1 .1 .0 ∙ p .1 .3) (d .kept .1 .1 .1 .1 .1 .1 .0 ∙ p .1 .4),
-    )
+    omega (arith, divided-few (a .pixels .now) (byte m) (p .0 .0) (a .closeness) (a .codes .now) (a .sizes .now) (codes m) (sizes m) (numbers m) (rest m) (d .result) (d .ensures), long m, p .0 .0, p .0 .1)
 
-same-length : tie.Need-same-length
-same-length c = search needs
+held-requires : tie.Need-held-requires
+held-requires c κs = search needs
 
-same-length-2 : tie.Need-same-length-2
-same-length-2 c = search needs
-
-same-length-3 : tie.Need-same-length-3
-same-length-3 c = search needs
-
-same-length-4 : tie.Need-same-length-4
-same-length-4 c = search needs
-
-same-length-5 : tie.Need-same-length-5
-same-length-5 c = search needs
-
-returns : tie.Need-returns
-unfolding entriesMade
-returns c =
+entries-of-requires : tie.Need-entries-of-requires
+entries-of-requires c κs =
     let m = c .before .before .before .before .before .before .before .before .before .before .before .before .before .before in
     let a = entry m .args in
     let p = entry m .pre in
-    let ps = pixelsOf (a .pixels .now) in
     let d = m .divide-pixels in
-    let r = c .finish .ensures in
-    let total = ap (λ (z : CardEntries). z .total) r in (
-      r ∙ ap (λ (xs : List ℕ). entriesMade (d .result) (codes m) (sizes m) xs ps) (front m)
-          ∙ card-made (a .closeness) ps (bytes m) (a .codes .now) (a .sizes .now) (codes m) (sizes m) (numbers m) (d .result) (d .ensures) (p .1 .3) (p .1 .4),
-      λ few. rw (front m, total)
-          (branches-laid (a .closeness) ps (bytes m) (a .codes .now) (a .sizes .now) (codes m) (sizes m) (numbers m) (d .result) (d .ensures) (p .1 .3) (p .1 .4) (omega (arith, total))),
+    rw (c .held .ensures) (figures-laid (a .pixels .now) (byte m) (p .0 .0) (a .closeness) (a .codes .now) (a .sizes .now) (codes m) (sizes m) (numbers m) (rest m) (d .result) (d .ensures)
+    (p .1 .3) (p .1 .4) (d .kept .1 .1 .1 .1 .1 .0 ∙ p .1 .3) (d .kept .1 .1 .1 .1 .1 .1 .0 ∙ p .1 .4) (omega (arith, long m, p .0 .0, p .0 .1)))
+
+returns : tie.Need-returns
+returns c =
+    let m = c .before .before .before .before .before .before .before .before .before .before .before .before .before .before .before in
+    let a = entry m .args in
+    let p = entry m .pre in
+    let d = m .divide-pixels in
+    let made = rw (c .before .held .ensures) at (c .entries-of .ensures) in (
+      card-made (a .pixels .now) (byte m) (p .0 .0) (a .closeness) (a .codes .now) (a .sizes .now) (codes m) (sizes m) (numbers m) (rest m) (d .result) (d .ensures)
+          (p .1 .3) (p .1 .4) (d .kept .1 .1 .1 .1 .1 .0 ∙ p .1 .3) (d .kept .1 .1 .1 .1 .1 .1 .0 ∙ p .1 .4) _ refl made,
+      labels-laid (a .pixels .now) (byte m) (p .0 .0) (a .closeness) (a .codes .now) (a .sizes .now) (codes m) (sizes m) (numbers m) (rest m) (d .result) (d .ensures)
+          (p .1 .3) (p .1 .4) (d .kept .1 .1 .1 .1 .1 .0 ∙ p .1 .3) (d .kept .1 .1 .1 .1 .1 .1 .0 ∙ p .1 .4),
     )
 
 pub make-entries-spec : {M : Type 1} → statement M
@@ -129,12 +108,12 @@ make-entries-spec =
     slice-relend-prefix-divide-pixels-3
     slice-aggregate-divide-pixels-3
     divide-pixels-requires
-    slice-reshare-prefix-finish
-    slice-aggregate-finish
-    finish-requires
-    same-length
-    same-length-2
-    same-length-3
-    same-length-4
-    same-length-5
+    cast-t21
+    held-requires
+    entries-of-requires
+    (λ c. search needs)
+    (λ c. search needs)
+    (λ c. search needs)
+    (λ c. search needs)
+    (λ c. search needs)
     returns)

@@ -1,18 +1,18 @@
 -- `entries_of` meets its contract. The loop's invariant: the entries passed stand in the first places. Assumes nothing.
-use Prim.Native.Nat.{_+_, _*_, _-_, _≤_, _<_}
+use Prim.Native.Nat.{_+_, _-_, _/_, _≤_}
 use mathlib.Core.Path.{refl, sym, ap, _∙_}
 use mathlib.Core.List.{List}
 use native.Mathlib.Omega.{arith}
 use borrow.Author.Needs.{needs}
-use lib.ListN.{length, getD, replicate}
+use lib.ListN.{length, take, getD, replicate}
 use lib.Seq.{take-all}
-use Rattle.lists.specs.Lists.{over}
+use Rattle.lists.specs.Lists.{total, over}
 use Rattle.lists.proofs.Buffers.{over-none, over-padded}
 use Rattle.palette.specs.declared.Entry.{Entry}
 use Rattle.palette.specs.Cards.{pixelsOf, mostEntries, noEntry}
 use Rattle.palette.specs.Sound.{mostPixels}
 use Rattle.making.specs.Making.{entriesBy}
-use Rattle.making.proofs.Laid.{next-within, part-long, part-each}
+use Rattle.making.proofs.Laid.{next-within, part-long, part-in}
 use Rattle.making.proofs.Made.{Made, entries-long, part-few, made-more}
 use Rattle.making.proofs.entries.entries_of.Statement.{statement}
 use Rattle.making.proofs.entries.entries_of.Tie as tie
@@ -30,11 +30,11 @@ entry c = c .before .before .before .before .before .before
 abbrev blank : tie.At-loop Inv-loop μ-loop → List Entry
 blank c = replicate 255 (c .before .no-entry .result)
 
-next : (c : tie.In-loop Inv-loop μ-loop) → c .before .loop .at + getD (entry (c .before) .args .sizes .now) (c .before .loop .k) 0 ≤ length (entry (c .before) .args .numbers .now)
+next : (c : tie.In-loop Inv-loop μ-loop) → c .before .loop .at + getD (entry (c .before) .args .sizes .now) (c .before .loop .k) 0 ≤ total (take (entry (c .before) .args .n) (entry (c .before) .args .sizes .now))
 next c =
     let l = c .before .loop in
     let a = entry (c .before) .args in
-    next-within (a .numbers .now) (a .sizes .now) (a .n) (entry (c .before) .pre .ranges) (l .k) (l .at) (l .inv .start) (c .loop-test .taken)
+    next-within (a .numbers .now) (a .sizes .now) (a .n) (length (a .pixels .now) / 3) (entry (c .before) .pre .ranges) (l .k) (l .at) (l .inv .start) (c .loop-test .taken)
 
 no-entry-requires : tie.Need-no-entry-requires Inv-loop μ-loop
 no-entry-requires c κs = search needs
@@ -66,7 +66,7 @@ part-gather-start : tie.Need-part-gather-start Inv-loop μ-loop
 part-gather-start c = omega arith
 
 part-gather-end : tie.Need-part-gather-end Inv-loop μ-loop
-part-gather-end c = omega (arith, next (c .before))
+part-gather-end c = omega (arith, next (c .before), entry (c .before .before) .pre .ranges .whole)
 
 gather-requires : tie.Need-gather-requires Inv-loop μ-loop
 gather-requires c κs =
@@ -75,8 +75,9 @@ gather-requires c κs =
     let a = entry (i .before) .args in
     let p = entry (i .before) .pre in
     let t = i .loop-test .taken in
-    let long = part-long (a .numbers .now) (a .sizes .now) (a .n) (p .ranges) (l .k) (l .at) (l .inv .start) t in
-    (omega (arith, long, next i, p .many), part-each (a .numbers .now) (a .sizes .now) (a .n) (p .ranges) (l .k) (l .at) (l .inv .start) t (λ x. 3 * x + 2 < length (a .pixels .now)) (p .inside))
+    let m = length (a .pixels .now) / 3 in
+    let long = part-long (a .numbers .now) (a .sizes .now) (a .n) m (p .ranges) (l .k) (l .at) (l .inv .start) t in
+    (omega (arith, long, next i, p .many), λ j h. omega (arith, part-in (a .numbers .now) (a .sizes .now) (a .n) m (p .ranges) (l .k) (l .at) (l .inv .start) t j h))
 
 mul-entry : tie.Need-mul-entry Inv-loop μ-loop
 mul-entry c = search needs
@@ -98,7 +99,7 @@ entry-requires c κs =
     let p = entry (i .before) .pre in
     let t = i .loop-test .taken in
     let g = c .before .before .gather in
-    let few = part-few (a .pixels .now) (a .numbers .now) (a .codes .now) (a .sizes .now) (a .n) (p .ranges) (blank (i .before)) (l .k) (l .at) (l .entries) (l .inv) t (g .result) (g .ensures)
+    let few = part-few (a .pixels .now) (a .numbers .now) (a .codes .now) (a .sizes .now) (a .n) (length (a .pixels .now) / 3) (p .ranges) (blank (i .before)) (l .k) (l .at) (l .entries) (l .inv) t (g .result) (g .ensures)
     (λ j. let known = i .before .before .before .before .before .before .shared-slice-known .given j in omega arith) in
     (p .small (l .k) t, p .filled (l .k) t, omega (arith, next i, p .many), few .red, few .green, few .blue)
 
@@ -125,7 +126,7 @@ loop-again c =
     let a = entry (i .before) .args in
     let r = entry (i .before) .pre .ranges in
     let g = c .before .before .before .gather in
-    made-more (a .pixels .now) (a .numbers .now) (a .codes .now) (a .sizes .now) (a .n) r (blank (i .before)) (l .k) (l .at) (l .entries) (l .inv) (i .loop-test .taken) (g .result) (g .ensures)
+    made-more (a .pixels .now) (a .numbers .now) (a .codes .now) (a .sizes .now) (a .n) (length (a .pixels .now) / 3) r (blank (i .before)) (l .k) (l .at) (l .entries) (l .inv) (i .loop-test .taken) (g .result) (g .ensures)
     (c .entry .result) (c .entry .ensures) (omega (arith, r .few))
 
 returns : tie.Need-returns Inv-loop μ-loop

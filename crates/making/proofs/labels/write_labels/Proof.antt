@@ -1,12 +1,13 @@
 -- `write_labels` meets its contract. The loop's invariant: the pixels of the entries passed have their labels. Assumes nothing.
-use Prim.Native.Nat.{ℕ, _+_, _-_, _≤_, _<_}
+use Prim.Native.Nat.{ℕ, _+_, _-_, _≤_}
 use mathlib.Core.Path.{refl, ap, _∙_}
 use native.Mathlib.Omega.{arith}
 use borrow.Author.Needs.{needs}
-use lib.ListN.{length, getD}
+use lib.ListN.{length, take, getD}
+use Rattle.lists.specs.Lists.{total}
 use Rattle.palette.specs.Cards.{mostEntries}
 use Rattle.making.specs.Making.{labelsBy}
-use Rattle.making.proofs.Laid.{next-within, part-each}
+use Rattle.making.proofs.Laid.{next-within, part-in}
 use Rattle.making.proofs.Labelled.{LabelsGiven, given-more}
 use Rattle.making.proofs.labels.write_labels.Statement.{statement}
 use Rattle.making.proofs.labels.write_labels.Tie as tie
@@ -21,11 +22,11 @@ abbrev μ-loop : tie.MeasureT-loop
 abbrev entry : tie.At-loop Inv-loop μ-loop → tie.Start Inv-loop μ-loop
 entry c = c .before .before .before .before
 
-next : (c : tie.In-loop Inv-loop μ-loop) → c .before .loop .at + getD (entry (c .before) .args .sizes .now) (c .before .loop .k) 0 ≤ length (entry (c .before) .args .numbers .now)
+next : (c : tie.In-loop Inv-loop μ-loop) → c .before .loop .at + getD (entry (c .before) .args .sizes .now) (c .before .loop .k) 0 ≤ total (take (entry (c .before) .args .n) (entry (c .before) .args .sizes .now))
 next c =
     let l = c .before .loop in
     let a = entry (c .before) .args in
-    next-within (a .numbers .now) (a .sizes .now) (a .n) (entry (c .before) .pre .0) (l .k) (l .at) (l .inv .start) (c .loop-test .taken)
+    next-within (a .numbers .now) (a .sizes .now) (a .n) (length (a .labels .now)) (entry (c .before) .pre) (l .k) (l .at) (l .inv .start) (c .loop-test .taken)
 
 loop-holds : tie.Need-loop-holds Inv-loop μ-loop
 unfolding labelsBy
@@ -41,10 +42,10 @@ cast-end : tie.Need-cast-end Inv-loop μ-loop
 cast-end c = omega (arith, c .shared-slice-known3 .given (c .before .before .loop .k))
 
 add-end : tie.Need-add-end Inv-loop μ-loop
-add-end c = omega (arith, next (c .before))
+add-end c = omega (arith, next (c .before), entry (c .before .before) .pre .whole)
 
 mul-label-range : tie.Need-mul-label-range Inv-loop μ-loop
-mul-label-range c = omega (arith, next (c .before))
+mul-label-range c = omega (arith, next (c .before), entry (c .before .before) .pre .whole)
 
 sub-label-range : tie.Need-sub-label-range Inv-loop μ-loop
 sub-label-range c = omega arith
@@ -53,11 +54,11 @@ part-label-range-start : tie.Need-part-label-range-start Inv-loop μ-loop
 part-label-range-start c = omega arith
 
 part-label-range-end : tie.Need-part-label-range-end Inv-loop μ-loop
-part-label-range-end c = omega (arith, next (c .before))
+part-label-range-end c = omega (arith, next (c .before), entry (c .before .before) .pre .whole)
 
 cast-label-range : tie.Need-cast-label-range Inv-loop μ-loop
 unfolding mostEntries
-cast-label-range c = omega (arith, entry (c .before .before .before) .pre .0 .few)
+cast-label-range c = omega (arith, entry (c .before .before .before) .pre .few)
 
 label-range-requires : tie.Need-label-range-requires Inv-loop μ-loop
 label-range-requires c κs =
@@ -65,11 +66,11 @@ label-range-requires c κs =
     let l = i .before .loop in
     let a = entry (i .before) .args in
     let p = entry (i .before) .pre in
-    part-each (a .numbers .now) (a .sizes .now) (a .n) (p .0) (l .k) (l .at) (l .inv .start) (i .loop-test .taken) (λ x. x < length (l .labels)) (λ j h. omega (arith, p .1 j h, l .inv .long))
+    λ j h. omega (arith, part-in (a .numbers .now) (a .sizes .now) (a .n) (length (a .labels .now)) p (l .k) (l .at) (l .inv .start) (i .loop-test .taken) j h, l .inv .long)
 
 add-k : tie.Need-add-k Inv-loop μ-loop
 unfolding mostEntries
-add-k c = omega (arith, entry (c .before .before .before .before .before .before .before) .pre .0 .few)
+add-k c = omega (arith, entry (c .before .before .before .before .before .before .before) .pre .few)
 
 loop-less : tie.Need-loop-less Inv-loop μ-loop
 loop-less c = search needs
@@ -80,7 +81,7 @@ loop-again c =
     let l = i .before .loop in
     let a = entry (i .before) .args in
     let w = c .before .before .label-range in
-    given-more (a .numbers .now) (a .sizes .now) (a .labels .now) (a .n) (entry (i .before) .pre .0) (l .k) (l .at) (l .labels) (l .inv) (i .loop-test .taken) (w .last .1 .1 .0) (w .ensures)
+    given-more (a .numbers .now) (a .sizes .now) (a .labels .now) (a .n) (length (a .labels .now)) (entry (i .before) .pre) (l .k) (l .at) (l .labels) (l .inv) (i .loop-test .taken) (w .last .1 .1 .0) (w .ensures)
 
 same-length : tie.Need-same-length Inv-loop μ-loop
 same-length c = c .before .loop .inv .long
