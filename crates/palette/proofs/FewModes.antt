@@ -23,11 +23,6 @@ mostModes hue = 31
 mostModes saturation = 21
 mostModes intensity = 26
 
-pub some-modes : (l : Level) → 1 ≤ mostModes l
-some-modes hue = omega arith
-some-modes saturation = omega arith
-some-modes intensity = omega arith
-
 -- so a mode's number is a digit to base 64
 pub most-modes-few : (l : Level) → mostModes l ≤ 31
 most-modes-few hue = omega arith
