@@ -1,12 +1,11 @@
 -- `make_card` meets its contract: it makes the scratch and lends it. Assumes nothing.
 use Prim.Native.Nat.{ℕ}
-use mathlib.Core.Path.{refl, sym, ap, _∙_}
+use mathlib.Core.Path.{refl, sym, _∙_}
 use native.Mathlib.Omega.{arith}
 use lib.ListN.{length, length-replicate}
-use Rattle.palette.specs.Cards.{pixelsOf, mostEntries}
+use Rattle.palette.specs.Cards.{mostEntries}
 use Rattle.palette.specs.Sound.{mostPixels}
 use Rattle.palette.proofs.Triples.{pixels-length}
-use Rattle.making.specs.Making.{RangesLaid, labelsBy}
 use borrow.Author.Needs.{needs}
 use Rattle.making.proofs.cards.make_card.Statement.{statement}
 use Rattle.making.proofs.cards.make_card.Tie as tie
