@@ -17,6 +17,7 @@ use Rattle.palette.specs.Levels.{Level, hue, saturation, intensity, binCount, b
 use Rattle.palette.specs.Cards.{Branch, pixelsOf}
 use Rattle.palette.specs.Sound.{pixelAt}
 use Rattle.dividing.specs.Sorted.{tally, marked, sortedBy}
+pub use Rattle.dividing.specs.Sorted.{modeBase}
 
 abbrev pub levelAt : ℕ → Level
 levelAt zero = intensity
@@ -64,20 +65,20 @@ marksOf e l keys = map (modeOf e l (tally (binCount l) keys)) keys
 -- one level of a range sorted: how many modes there are and how many pixels each has, and the numbers of each mode's pixels in turn
 pub record LevelSorted (e : Closeness) (l : Level) (keys xs sizes sorted : List ℕ) (n : ℕ) : Type 0 where
   pub modes : n ≡ modesOf e l keys
-  pub counts : sizes ≡ tally 64 (marksOf e l keys)
-  pub order : sorted ≡ sortedBy 64 (marksOf e l keys) xs
+  pub counts : sizes ≡ tally modeBase (marksOf e l keys)
+  pub order : sorted ≡ sortedBy modeBase (marksOf e l keys) xs
 
 abbrev pub RangeSorted : (e : Closeness) (ps : List Pixel) (l : Level) (xs sizes sorted : List ℕ) (n : ℕ) → Type 0
 RangeSorted e ps l xs sizes sorted n = LevelSorted e l (binsOf ps l xs) xs sizes sorted n
 
 module _ (e : Closeness) (ps : List Pixel) where
-  -- a level is split, and each of its modes is split at the next level; a code has kind and mode numbers as digits to base 64
+  -- a level is split, and each of its modes is split at the next level; a code has kind and mode numbers as digits
   unfoldable pub leaves : ℕ → ℕ → List ℕ → List Leaf
   leaves zero code xs = record { code = code; pixels = xs } ∷ []
   leaves (suc left) code xs =
       let l = levelAt (suc left) in
       let keys = binsOf ps l xs in
-      flatMap (λ m. leaves left (code * 64 + m) (marked m (marksOf e l keys) xs)) (numbers 0 (modesOf e l keys))
+      flatMap (λ m. leaves left (code * modeBase + m) (marked m (marksOf e l keys) xs)) (numbers 0 (modesOf e l keys))
 
   -- ranges of the given sizes, one after the other, each split at the levels left
   unfoldable pub walked : ℕ → ℕ → List ℕ → List ℕ → List Leaf
@@ -102,7 +103,7 @@ unfoldable pub numbersOf : List Pixel → Branch → List ℕ
 numbersOf ps b = filter (λ i. b .has (pixelAt ps i)) (numbers 0 (length ps))
 
 abbrev pub codeOf : Branch → ℕ
-codeOf b = ((b .kind * 64 + b .hue) * 64 + b .saturation) * 64 + b .intensity
+codeOf b = ((b .kind * modeBase + b .hue) * modeBase + b .saturation) * modeBase + b .intensity
 
 abbrev pub leafOf : List Pixel → Branch → Leaf
 leafOf ps b = record { code = codeOf b; pixels = numbersOf ps b }

@@ -9,6 +9,11 @@ mod sorting;
 pub use divide::divide_pixels;
 pub use measuring::pixel_at;
 
+// No level has as many modes: the base of an entry's code, whose digits are its kind and its mode numbers.
+pub const MODE_BASE: u32 = 64;
+
+const MODES: usize = MODE_BASE as usize;
+
 // A range that may still be divided: so many levels are left, its kind and the modes chosen are the digits of its code, and so many entries come before it.
 pub struct Node {
     pub closeness: u32,
@@ -20,5 +25,5 @@ pub struct Node {
 // The modes of a level: how many there are, and how many pixels each has.
 pub struct Parts {
     pub count: usize,
-    pub sizes: [u32; 64],
+    pub sizes: [u32; MODES],
 }

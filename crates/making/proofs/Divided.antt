@@ -47,8 +47,8 @@ mean-by f ps b =
 entry-by : (ps : List Pixel) (b : Branch) → Digits b → entryBy (codeOf b) (length (numbersOf ps b)) (sumsOf ps (numbersOf ps b)) ≡ entryOf ps b
 unfolding entryBy entryOf
 entry-by ps b d =
-    let i : codeOf b / 262144 ≡ b .kind = omega (arith, d .hue, d .saturation, d .intensity) in
-    let h : codeOf b / 4096 % 64 ≡ b .hue = omega (arith, d .hue, d .saturation, d .intensity) in
+    let i : codeOf b / 64 / 64 / 64 ≡ b .kind = omega (arith, d .hue, d .saturation, d .intensity) in
+    let h : codeOf b / 64 / 64 % 64 ≡ b .hue = omega (arith, d .hue, d .saturation, d .intensity) in
     let s : codeOf b / 64 % 64 ≡ b .saturation = omega (arith, d .hue, d .saturation, d .intensity) in
     let t : codeOf b % 64 ≡ b .intensity = omega (arith, d .hue, d .saturation, d .intensity) in
     let many : length (numbersOf ps b) ≡ length (members ps b) = sym (length-map (numbersOf ps b) (pixelAt ps)) ∙ ap length (members-numbered ps b) in

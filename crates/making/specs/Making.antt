@@ -11,6 +11,7 @@ use Rattle.verdict.specs.Test.{Closeness}
 use Rattle.palette.specs.declared.Entry.{Entry}
 use Rattle.palette.specs.Cards.{entries, labels, mostEntries, noEntry}
 use Rattle.palette.specs.Sound.{pixelAt, mostPixels}
+use Rattle.dividing.specs.Sorted.{modeBase}
 use Rattle.making.specs.declared.CardEntries.{CardEntries}
 use Rattle.making.specs.declared.Sums.{Sums}
 
@@ -37,10 +38,10 @@ meanBy total count = (2 * total + count) / (2 * count)
 -- an entry from its code and its figures
 unfoldable pub entryBy : ℕ → ℕ → Sums → Entry
 entryBy code count sums = record {
-  kind = code / 262144;
-  hue = code / 4096 % 64;
-  saturation = code / 64 % 64;
-  intensity = code % 64;
+  kind = code / modeBase / modeBase / modeBase;
+  hue = code / modeBase / modeBase % modeBase;
+  saturation = code / modeBase % modeBase;
+  intensity = code % modeBase;
   red = meanBy (sums .red) count;
   green = meanBy (sums .green) count;
   blue = meanBy (sums .blue) count;

@@ -1,7 +1,7 @@
 // The card of an image: its entries, and the label of each pixel.
 use crate::CardEntries;
 use crate::entries::entries_of;
-use crate::labels::write_labels;
+use crate::entries::write_labels;
 use dividing::divide_pixels;
 use palette::MOST_ENTRIES;
 use palette::MOST_PIXELS;
@@ -53,8 +53,7 @@ pub fn make_entries(
     }
 }
 
-// The entries and the labels, where a card may hold so many entries; else how many there are, with the labels as lent.
-// All scratch is made here: five bytes for each pixel, and a place in two lists for each entry.
+// The entries and the labels, in scratch that is made here: five bytes for each pixel, a place in two lists for each entry. With too many entries the labels stay as lent.
 pub fn make_card(pixels: &[u8], closeness: u32, labels: &mut [u8]) -> CardEntries
     requires { ⌜ (length (now pixels) ≡ 3 * length (now labels)) × (length (now labels) ≤ mostPixels) × (closeness ≤ mostCloseness) ⌝ }
     ensures { λ r. ⌜ (r ≡ cardEntries closeness (pixelsOf (now (pixels .entry))))

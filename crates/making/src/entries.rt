@@ -1,17 +1,18 @@
-// The entries of a card, from the numbers of the pixels, entry by entry.
+// The entries of a card and the labels of its pixels, from the numbers of the pixels, entry by entry.
 use crate::Sums;
+use dividing::MODE_BASE;
 use dividing::pixel_at;
 use palette::Entry;
 use palette::MOST_ENTRIES;
 use palette::no_entry;
 ghost use mathlib.Core.Path.{_≡_};
-ghost use Prim.Native.Nat.{_≤_, _<_, _*_, _+_, _^_};
+ghost use Prim.Native.Nat.{_≤_, _<_, _*_, _+_, _/_, _^_};
 ghost use lib.ListN.{length};
 ghost use Rattle.lists.specs.Lists.{padded};
 ghost use Rattle.palette.specs.Cards.{pixelsOf, mostEntries, noEntry};
 ghost use Rattle.palette.specs.Sound.{mostPixels};
-ghost use Rattle.dividing.specs.Splitting.{AllIn};
-ghost use Rattle.making.specs.Making.{sumsOf, meanBy, entryBy, entriesBy, FiguresLaid};
+ghost use Rattle.dividing.specs.Sorted.{AllBelow};
+ghost use Rattle.making.specs.Making.{sumsOf, labelled, meanBy, entryBy, entriesBy, labelsBy, RangesLaid, FiguresLaid};
 
 fn plus(sum: u32, level: u8) -> u32
     requires { ⌜ sum ≤ 255 * mostPixels ⌝ }
@@ -22,7 +23,7 @@ fn plus(sum: u32, level: u8) -> u32
 
 // Adds up the pixels of one entry.
 fn gather(pixels: &[u8], numbers: &[u16]) -> Sums
-    requires { ⌜ (length (now numbers) ≤ mostPixels) × AllIn (now numbers) (now pixels) ⌝ }
+    requires { ⌜ (length (now numbers) ≤ mostPixels) × AllBelow (now numbers) (length (now pixels) / 3) ⌝ }
     ensures { λ r. ⌜ r ≡ sumsOf (pixelsOf (now (pixels .entry))) (now (numbers .entry)) ⌝ }
 {
     let mut red = 0;
@@ -52,10 +53,10 @@ fn entry(code: u32, count: u32, sums: Sums) -> Entry
     ensures { λ r. ⌜ r ≡ entryBy code count sums ⌝ }
 {
     Entry {
-        kind: (code / 262144) as u8,
-        hue: (code / 4096 % 64) as u8,
-        saturation: (code / 64 % 64) as u8,
-        intensity: (code % 64) as u8,
+        kind: (code / MODE_BASE / MODE_BASE / MODE_BASE) as u8,
+        hue: (code / MODE_BASE / MODE_BASE % MODE_BASE) as u8,
+        saturation: (code / MODE_BASE % MODE_BASE) as u8,
+        intensity: (code % MODE_BASE) as u8,
         red: mean(sums.red, count),
         green: mean(sums.green, count),
         blue: mean(sums.blue, count),
@@ -85,4 +86,31 @@ pub fn entries_of(
         k += 1;
     }
     entries
+}
+
+// Gives the pixels of one entry its label.
+fn label_range(numbers: &[u16], label: u8, labels: &mut [u8])
+    requires { ⌜ AllBelow (now numbers) (length (now labels)) ⌝ }
+    ensures { λ _. ⌜ now (labels .exit) ≡ labelled label (now (numbers .entry)) (now (labels .entry)) ⌝ }
+{
+    let mut at = 0;
+    while at < numbers.len() {
+        labels[numbers[at] as usize] = label;
+        at += 1;
+    }
+}
+
+// Each of the n entries labels the next of the numbers, as many as its size says.
+pub fn write_labels(numbers: &[u16], sizes: &[u32], n: usize, labels: &mut [u8])
+    requires { ⌜ RangesLaid (now numbers) (now sizes) n (length (now labels)) ⌝ }
+    ensures { λ _. ⌜ now (labels .exit) ≡ labelsBy (now (sizes .entry)) (now (numbers .entry)) n (now (labels .entry)) ⌝ }
+{
+    let mut at = 0;
+    let mut k = 0;
+    while k < n {
+        let end = at + sizes[k] as usize;
+        label_range(&numbers[at..end], k as u8, labels);
+        at = end;
+        k += 1;
+    }
 }

@@ -4,7 +4,6 @@ use palette::MOST_ENTRIES;
 
 mod cards;
 mod entries;
-mod labels;
 
 pub use cards::make_card;
 pub use cards::make_entries;

@@ -96,9 +96,6 @@ slice-aggregate-split-some c =
     let k = c .before .before .before .before .before in
     sym (greys-long (bytes k) (order k) (other k) (greys k) (all k) (laid k))
 
-mul-split-some : tie.Need-mul-split-some
-mul-split-some c = search needs
-
 sub-split-some : tie.Need-sub-split-some
 sub-split-some c = search needs
 
@@ -115,9 +112,6 @@ split-some-requires c κs =
     let l = laid k in
     let long = greys-long (bytes k) (order k) (other k) (greys k) (all k) l in
     ((omega arith, p .4, omega arith, omega arith), (greys-room (bytes k) (order k) (other k) (greys k) (all k) l, omega (arith, long, l .some, p .2), omega (arith, long, l .some, p .3), l .greysIn, λ e. absurd (omega arith)))
-
-slice-relend-prefix-split-some-2 : tie.Need-slice-relend-prefix-split-some-2
-slice-relend-prefix-split-some-2 c = search needs
 
 slice-aggregate-split-some-2 : tie.Need-slice-aggregate-split-some-2
 slice-aggregate-split-some-2 c =
@@ -223,12 +217,12 @@ divide-pixels-spec =
     sub-colours
     slice-relend-prefix-split-some
     slice-aggregate-split-some
-    mul-split-some
+    (λ c. search needs)
     sub-split-some
     part-split-some-start
     part-split-some-end
     split-some-requires
-    slice-relend-prefix-split-some-2
+    (λ c. search needs)
     slice-aggregate-split-some-2
     mul-split-some-2
     sub-split-some-2

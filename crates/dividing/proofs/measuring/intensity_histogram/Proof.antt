@@ -44,12 +44,6 @@ loop-holds c =
     let a = c .before .before .before .args in
     passed-none (a .pixels .now) (λ j. let known = c .before .before .shared-slice-known .given j in omega arith) intensity (a .order .now) (a .keys .now) (c .before .before .before .pre .0)
 
-mul-pixel-at : tie.Need-mul-pixel-at Inv-loop μ-loop
-mul-pixel-at c = search needs
-
-shared-slice-read-pixel-at : tie.Need-shared-slice-read-pixel-at Inv-loop μ-loop
-shared-slice-read-pixel-at c = search needs
-
 cast-pixel-at : tie.Need-cast-pixel-at Inv-loop μ-loop
 cast-pixel-at c = omega (arith, c .shared-slice-known3 .given (c .before .before .loop .i))
 
@@ -110,8 +104,8 @@ intensity-histogram-spec =
     Inv-loop
     μ-loop
     loop-holds
-    mul-pixel-at
-    shared-slice-read-pixel-at
+    (λ c. search needs)
+    (λ c. search needs)
     cast-pixel-at
     pixel-at-requires
     intensity-bin-requires

@@ -16,20 +16,8 @@ use borrow.Author.Needs.{needs}
 use Rattle.dividing.proofs.modes.hue_modes.Statement.{statement}
 use Rattle.dividing.proofs.modes.hue_modes.Tie as tie
 
-slice-aggregate-open-ring : tie.Need-slice-aggregate-open-ring
-slice-aggregate-open-ring c = search needs
-
-slice-aggregate-open-ring-2 : tie.Need-slice-aggregate-open-ring-2
-slice-aggregate-open-ring-2 c = search needs
-
 open-ring-requires : tie.Need-open-ring-requires
 open-ring-requires c κs = search needs
-
-slice-aggregate-line-separators : tie.Need-slice-aggregate-line-separators
-slice-aggregate-line-separators c = search needs
-
-slice-aggregate-line-separators-2 : tie.Need-slice-aggregate-line-separators-2
-slice-aggregate-line-separators-2 c = search needs
 
 line-separators-requires : tie.Need-line-separators-requires
 unfolding mostPixels
@@ -51,9 +39,6 @@ sub-n c =
     let a = c .before .before .before .before .before .before .before .before .before .args in
     omega (arith, s .ensures .0, separators-length (a .closeness) (c .before .before .before .before .before .open-ring .last .1 .0))
 
-slice-aggregate-number-bins : tie.Need-slice-aggregate-number-bins
-slice-aggregate-number-bins c = search needs
-
 number-bins-requires : tie.Need-number-bins-requires
 number-bins-requires c κs =
     let s = c .before .before .before .line-separators in
@@ -70,9 +55,6 @@ number-bins-requires c κs =
     let some = modes-cut e (opened h) two .nonEmpty in
     let rise : RisesFromZero (s .last .1 .1 .0) (s .result - 1) = rw (s .ensures .1, same, n) (held-rise e (opened h) two _) in
     ((omega (arith, n), omega (arith, n, half, ring-length h (omega arith), s .kept .1 .1 .0), rise), (omega (arith, o .ensures .0, opening-in h (omega arith)), omega arith, omega (arith, n, half, ring-length h (omega arith))))
-
-same-length : tie.Need-same-length
-same-length c = search needs
 
 returns : tie.Need-returns
 unfolding ringModes
@@ -94,15 +76,15 @@ pub hue-modes-spec : {M : Type 1} → statement M
 hue-modes-spec =
     tie.close
     (tie.spec
-    slice-aggregate-open-ring
-    slice-aggregate-open-ring-2
+    (λ c. search needs)
+    (λ c. search needs)
     open-ring-requires
-    slice-aggregate-line-separators
-    slice-aggregate-line-separators-2
+    (λ c. search needs)
+    (λ c. search needs)
     line-separators-requires
     cast-n
     sub-n
-    slice-aggregate-number-bins
+    (λ c. search needs)
     number-bins-requires
-    same-length
+    (λ c. search needs)
     returns)

@@ -13,9 +13,6 @@ use borrow.Author.Needs.{needs}
 use Rattle.dividing.proofs.modes.line_modes.Statement.{statement}
 use Rattle.dividing.proofs.modes.line_modes.Tie as tie
 
-slice-aggregate-line-separators : tie.Need-slice-aggregate-line-separators
-slice-aggregate-line-separators c = search needs
-
 line-separators-requires : tie.Need-line-separators-requires
 unfolding mostPixels
 line-separators-requires c κs =
@@ -30,9 +27,6 @@ sub-n c =
     let a = c .before .before .before .before .before .args in
     omega (arith, c .before .line-separators .ensures .0, separators-length (a .closeness) (a .h .now))
 
-slice-aggregate-number-bins : tie.Need-slice-aggregate-number-bins
-slice-aggregate-number-bins c = search needs
-
 number-bins-requires : tie.Need-number-bins-requires
 number-bins-requires c κs =
     let s = c .before .before .before .line-separators in
@@ -45,9 +39,6 @@ number-bins-requires c κs =
     let some = modes-cut e h (p .0) .nonEmpty in
     let rise : RisesFromZero (s .last .1 .1 .0) (s .result - 1) = rw (s .ensures .1, n) (held-rise e h (p .0) _) in
     ((omega (arith, n), omega (arith, n, half, s .kept .1 .1 .0), rise), (omega arith, omega arith, omega (arith, n, half)))
-
-same-length : tie.Need-same-length
-same-length c = search needs
 
 returns : tie.Need-returns
 returns c =
@@ -66,11 +57,11 @@ pub line-modes-spec : {M : Type 1} → statement M
 line-modes-spec =
     tie.close
     (tie.spec
-    slice-aggregate-line-separators
+    (λ c. search needs)
     line-separators-requires
     cast-n
     sub-n
-    slice-aggregate-number-bins
+    (λ c. search needs)
     number-bins-requires
-    same-length
+    (λ c. search needs)
     returns)

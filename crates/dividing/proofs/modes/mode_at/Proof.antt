@@ -17,12 +17,6 @@ returns c = search needs
 add-if2 : tie.Need-add-if2
 add-if2 c = search needs
 
-mul-if2 : tie.Need-mul-if2
-mul-if2 c = search needs
-
-shared-slice-read-if2 : tie.Need-shared-slice-read-if2
-shared-slice-read-if2 c = search needs
-
 cast-if2 : tie.Need-cast-if2
 cast-if2 c = omega (arith, c .shared-slice-known .given (c .before .before .args .m + 1))
 
@@ -56,8 +50,8 @@ mode-at-spec =
     add-if1
     returns
     add-if2
-    mul-if2
-    shared-slice-read-if2
+    (λ c. search needs)
+    (λ c. search needs)
     cast-if2
     add-result
     returns-2

@@ -75,9 +75,6 @@ loop-again c =
           rw e (c .mode-at .result, b, getD-set-same (l .modes) here v 0 inside)),
     )
 
-same-length : tie.Need-same-length Inv-loop μ-loop
-same-length c = search needs
-
 returns : tie.Need-returns Inv-loop μ-loop
 returns c =
     let l = c .before .loop in
@@ -99,5 +96,5 @@ number-bins-spec =
     add-i
     loop-less
     loop-again
-    same-length
+    (λ c. search needs)
     returns)

@@ -4,14 +4,8 @@ use borrow.Author.Needs.{needs}
 use Rattle.dividing.proofs.modes.saturation_modes.Statement.{statement}
 use Rattle.dividing.proofs.modes.saturation_modes.Tie as tie
 
-slice-aggregate-line-modes : tie.Need-slice-aggregate-line-modes
-slice-aggregate-line-modes c = search needs
-
 line-modes-requires : tie.Need-line-modes-requires
 line-modes-requires c κs = search needs
-
-same-length : tie.Need-same-length
-same-length c = search needs
 
 returns : tie.Need-returns
 unfolding modeOf
@@ -21,4 +15,4 @@ returns c =
 
 pub saturation-modes-spec : {M : Type 1} → statement M
 saturation-modes-spec =
-    tie.close (tie.spec slice-aggregate-line-modes line-modes-requires same-length returns)
+    tie.close (tie.spec (λ c. search needs) line-modes-requires (λ c. search needs) returns)

@@ -36,20 +36,11 @@ rest m = drop (many (entry m)) (entry m .args .order .now)
 byte : (m : tie.After-divide-pixels) (j : ℕ) → getD (entry m .args .pixels .now) j 0 < 256
 byte m j = let known = m .before .before .before .before .before .before .before .before .before .before .before .shared-slice-known .given j in omega arith
 
-slice-relend-prefix-divide-pixels : tie.Need-slice-relend-prefix-divide-pixels
-slice-relend-prefix-divide-pixels c = search needs
-
 slice-aggregate-divide-pixels : tie.Need-slice-aggregate-divide-pixels
 slice-aggregate-divide-pixels c = let s = c .before .before .before .before .before .before .before in sym (length-take-le (many s) (s .args .order .now) (s .pre .1 .0))
 
-slice-relend-prefix-divide-pixels-2 : tie.Need-slice-relend-prefix-divide-pixels-2
-slice-relend-prefix-divide-pixels-2 c = search needs
-
 slice-aggregate-divide-pixels-2 : tie.Need-slice-aggregate-divide-pixels-2
 slice-aggregate-divide-pixels-2 c = let s = c .before .before .before .before .before .before .before .before in sym (length-take-le (many s) (s .args .other .now) (s .pre .1 .1))
-
-slice-relend-prefix-divide-pixels-3 : tie.Need-slice-relend-prefix-divide-pixels-3
-slice-relend-prefix-divide-pixels-3 c = search needs
 
 slice-aggregate-divide-pixels-3 : tie.Need-slice-aggregate-divide-pixels-3
 slice-aggregate-divide-pixels-3 c = let s = c .before .before .before .before .before .before .before .before .before in sym (length-take-le (many s) (s .args .keys .now) (s .pre .1 .2))
@@ -101,11 +92,11 @@ pub make-entries-spec : {M : Type 1} → statement M
 make-entries-spec =
     tie.close
     (tie.spec
-    slice-relend-prefix-divide-pixels
+    (λ c. search needs)
     slice-aggregate-divide-pixels
-    slice-relend-prefix-divide-pixels-2
+    (λ c. search needs)
     slice-aggregate-divide-pixels-2
-    slice-relend-prefix-divide-pixels-3
+    (λ c. search needs)
     slice-aggregate-divide-pixels-3
     divide-pixels-requires
     cast-t21

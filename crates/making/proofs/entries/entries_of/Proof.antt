@@ -42,12 +42,6 @@ no-entry-requires c κs = search needs
 loop-holds : tie.Need-loop-holds Inv-loop μ-loop
 loop-holds c = record { within = omega arith; start = refl; room = refl; made = sym (over-none _) }
 
-mul-end : tie.Need-mul-end Inv-loop μ-loop
-mul-end c = search needs
-
-shared-slice-read-end : tie.Need-shared-slice-read-end Inv-loop μ-loop
-shared-slice-read-end c = search needs
-
 cast-end : tie.Need-cast-end Inv-loop μ-loop
 cast-end c = omega (arith, c .shared-slice-known5 .given (c .before .before .loop .k))
 
@@ -77,19 +71,7 @@ gather-requires c κs =
     let t = i .loop-test .taken in
     let m = length (a .pixels .now) / 3 in
     let long = part-long (a .numbers .now) (a .sizes .now) (a .n) m (p .ranges) (l .k) (l .at) (l .inv .start) t in
-    (omega (arith, long, next i, p .many), λ j h. omega (arith, part-in (a .numbers .now) (a .sizes .now) (a .n) m (p .ranges) (l .k) (l .at) (l .inv .start) t j h))
-
-mul-entry : tie.Need-mul-entry Inv-loop μ-loop
-mul-entry c = search needs
-
-shared-slice-read-entry : tie.Need-shared-slice-read-entry Inv-loop μ-loop
-shared-slice-read-entry c = search needs
-
-mul-entry-2 : tie.Need-mul-entry-2 Inv-loop μ-loop
-mul-entry-2 c = search needs
-
-shared-slice-read-entry-2 : tie.Need-shared-slice-read-entry-2 Inv-loop μ-loop
-shared-slice-read-entry-2 c = search needs
+    (omega (arith, long, next i, p .many), part-in (a .numbers .now) (a .sizes .now) (a .n) m (p .ranges) (l .k) (l .at) (l .inv .start) t)
 
 entry-requires : tie.Need-entry-requires Inv-loop μ-loop
 entry-requires c κs =
@@ -147,8 +129,8 @@ entries-of-spec =
     μ-loop
     no-entry-requires
     loop-holds
-    mul-end
-    shared-slice-read-end
+    (λ c. search needs)
+    (λ c. search needs)
     cast-end
     add-end
     mul-gather
@@ -156,10 +138,10 @@ entries-of-spec =
     part-gather-start
     part-gather-end
     gather-requires
-    mul-entry
-    shared-slice-read-entry
-    mul-entry-2
-    shared-slice-read-entry-2
+    (λ c. search needs)
+    (λ c. search needs)
+    (λ c. search needs)
+    (λ c. search needs)
     entry-requires
     mul-entries
     array-set-from-entries

@@ -5,17 +5,17 @@ use Rattle.making.specs.Making.{entryBy}
 use Rattle.making.proofs.entries.entry.Statement.{statement}
 use Rattle.making.proofs.entries.entry.Tie as tie
 
-cast-t5 : tie.Need-cast-t5
-cast-t5 c = search needs
-
-cast-t8 : tie.Need-cast-t8
-cast-t8 c = search needs
+cast-t7 : tie.Need-cast-t7
+cast-t7 c = search needs
 
 cast-t11 : tie.Need-cast-t11
 cast-t11 c = search needs
 
-cast-t13 : tie.Need-cast-t13
-cast-t13 c = search needs
+cast-t14 : tie.Need-cast-t14
+cast-t14 c = search needs
+
+cast-t16 : tie.Need-cast-t16
+cast-t16 c = search needs
 
 mean-requires : tie.Need-mean-requires
 mean-requires c κs = search needs
@@ -34,10 +34,10 @@ pub entry-spec : {M : Type 1} → statement M
 entry-spec =
     tie.close
     (tie.spec
-    cast-t5
-    cast-t8
+    cast-t7
     cast-t11
-    cast-t13
+    cast-t14
+    cast-t16
     mean-requires
     mean-requires-2
     mean-requires-3

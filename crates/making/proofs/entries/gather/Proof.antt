@@ -31,17 +31,11 @@ few c =
 loop-holds : tie.Need-loop-holds Inv-loop μ-loop
 loop-holds c = gathered-none _ _
 
-mul-pixel-at : tie.Need-mul-pixel-at Inv-loop μ-loop
-mul-pixel-at c = search needs
-
-shared-slice-read-pixel-at : tie.Need-shared-slice-read-pixel-at Inv-loop μ-loop
-shared-slice-read-pixel-at c = search needs
-
 cast-pixel-at : tie.Need-cast-pixel-at Inv-loop μ-loop
 cast-pixel-at c = omega (arith, c .shared-slice-known3 .given (c .before .before .loop .i))
 
 pixel-at-requires : tie.Need-pixel-at-requires Inv-loop μ-loop
-pixel-at-requires c κs = entry (c .before .before) .pre .1 (c .before .before .loop .i) (omega arith)
+pixel-at-requires c κs = omega (arith, entry (c .before .before) .pre .1 (c .before .before .loop .i) (omega arith))
 
 plus-requires : tie.Need-plus-requires Inv-loop μ-loop
 plus-requires c κs = omega (arith, few c .red, entry (c .before .before .before) .pre .0)
@@ -79,8 +73,8 @@ gather-spec =
     Inv-loop
     μ-loop
     loop-holds
-    mul-pixel-at
-    shared-slice-read-pixel-at
+    (λ c. search needs)
+    (λ c. search needs)
     cast-pixel-at
     pixel-at-requires
     plus-requires

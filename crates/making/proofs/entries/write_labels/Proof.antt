@@ -9,8 +9,8 @@ use Rattle.palette.specs.Cards.{mostEntries}
 use Rattle.making.specs.Making.{labelsBy}
 use Rattle.making.proofs.Laid.{next-within, part-in}
 use Rattle.making.proofs.Labelled.{LabelsGiven, given-more}
-use Rattle.making.proofs.labels.write_labels.Statement.{statement}
-use Rattle.making.proofs.labels.write_labels.Tie as tie
+use Rattle.making.proofs.entries.write_labels.Statement.{statement}
+use Rattle.making.proofs.entries.write_labels.Tie as tie
 
 abbrev Inv-loop : tie.InvT-loop
 Inv-loop numbers sizes n labels₀ at₀ k₀ labels at k = LabelsGiven numbers sizes labels₀ n k at labels
@@ -31,12 +31,6 @@ next c =
 loop-holds : tie.Need-loop-holds Inv-loop μ-loop
 unfolding labelsBy
 loop-holds c = record { within = omega arith; start = refl; long = refl; given = refl }
-
-mul-end : tie.Need-mul-end Inv-loop μ-loop
-mul-end c = search needs
-
-shared-slice-read-end : tie.Need-shared-slice-read-end Inv-loop μ-loop
-shared-slice-read-end c = search needs
 
 cast-end : tie.Need-cast-end Inv-loop μ-loop
 cast-end c = omega (arith, c .shared-slice-known3 .given (c .before .before .loop .k))
@@ -99,8 +93,8 @@ write-labels-spec =
     Inv-loop
     μ-loop
     loop-holds
-    mul-end
-    shared-slice-read-end
+    (λ c. search needs)
+    (λ c. search needs)
     cast-end
     add-end
     mul-label-range

@@ -8,14 +8,14 @@ use lib.ListN.{length, take, getD, set, length-set}
 use lib.Seq.{take-all}
 use Rattle.making.specs.Making.{labelled}
 use Rattle.making.proofs.Labelled.{labelled-more}
-use Rattle.making.proofs.labels.label_range.Statement.{statement}
-use Rattle.making.proofs.labels.label_range.Tie as tie
+use Rattle.making.proofs.entries.label_range.Statement.{statement}
+use Rattle.making.proofs.entries.label_range.Tie as tie
 
 abbrev Inv-loop : tie.InvT-loop
-Inv-loop numbers label labels₀ i₀ labels i = (i ≤ length numbers) × (length labels ≡ length labels₀) × (labels ≡ labelled label (take i numbers) labels₀)
+Inv-loop numbers label labels₀ at₀ labels at = (at ≤ length numbers) × (length labels ≡ length labels₀) × (labels ≡ labelled label (take at numbers) labels₀)
 
 abbrev μ-loop : tie.MeasureT-loop
-μ-loop numbers label labels₀ i₀ labels i = length numbers - i
+μ-loop numbers label labels₀ at₀ labels at = length numbers - at
 
 -- the way to the call
 abbrev entry : tie.At-loop Inv-loop μ-loop → tie.Start Inv-loop μ-loop
@@ -25,20 +25,14 @@ loop-holds : tie.Need-loop-holds Inv-loop μ-loop
 unfolding labelled
 loop-holds c = (omega arith, refl, refl)
 
-mul-at : tie.Need-mul-at Inv-loop μ-loop
-mul-at c = search needs
-
-shared-slice-read-at : tie.Need-shared-slice-read-at Inv-loop μ-loop
-shared-slice-read-at c = search needs
-
-cast-at : tie.Need-cast-at Inv-loop μ-loop
-cast-at c = omega (arith, c .shared-slice-known .given (c .before .before .loop .i))
+cast-labels : tie.Need-cast-labels Inv-loop μ-loop
+cast-labels c = omega (arith, c .shared-slice-known .given (c .before .before .loop .at))
 
 slice-write-labels : tie.Need-slice-write-labels Inv-loop μ-loop
-slice-write-labels c = let l = c .before .before .loop in omega (arith, entry (c .before .before) .pre (l .i) (omega arith), l .inv .1)
+slice-write-labels c = let l = c .before .before .loop in omega (arith, entry (c .before .before) .pre (l .at) (omega arith), l .inv .1)
 
-add-i : tie.Need-add-i Inv-loop μ-loop
-add-i c = search needs
+add-at : tie.Need-add-at Inv-loop μ-loop
+add-at c = search needs
 
 loop-less : tie.Need-loop-less Inv-loop μ-loop
 loop-less c = search needs
@@ -47,8 +41,8 @@ loop-again : tie.Need-loop-again Inv-loop μ-loop
 loop-again c =
     let l = c .before .before .loop in
     let a = entry (c .before .before) .args in
-    let x = getD (a .numbers .now) (l .i) 0 in
-    (omega arith, simp length-set (l .inv .1), ap (λ (z : List ℕ). set z x (a .label)) (l .inv .2) ∙ labelled-more (a .label) (a .numbers .now) (a .labels .now) (l .i) (c .before .loop-test .taken))
+    let x = getD (a .numbers .now) (l .at) 0 in
+    (omega arith, simp length-set (l .inv .1), ap (λ (z : List ℕ). set z x (a .label)) (l .inv .2) ∙ labelled-more (a .label) (a .numbers .now) (a .labels .now) (l .at) (c .before .loop-test .taken))
 
 same-length : tie.Need-same-length Inv-loop μ-loop
 same-length c = c .before .loop .inv .1
@@ -57,7 +51,7 @@ returns : tie.Need-returns Inv-loop μ-loop
 returns c =
     let l = c .before .loop in
     let a = entry (c .before) .args in
-    l .inv .2 ∙ ap (λ (z : List ℕ). labelled (a .label) z (a .labels .now)) (take-all (l .i) (a .numbers .now) (c .loop-test .left))
+    l .inv .2 ∙ ap (λ (z : List ℕ). labelled (a .label) z (a .labels .now)) (take-all (l .at) (a .numbers .now) (c .loop-test .left))
 
 pub label-range-spec : {M : Type 1} → statement M
 label-range-spec =
@@ -66,11 +60,11 @@ label-range-spec =
     Inv-loop
     μ-loop
     loop-holds
-    mul-at
-    shared-slice-read-at
-    cast-at
+    (λ c. search needs)
+    (λ c. search needs)
+    cast-labels
     slice-write-labels
-    add-i
+    add-at
     loop-less
     loop-again
     same-length
