@@ -2,7 +2,8 @@
 use pixel::Pixel;
 use pixel::hue_of;
 use pixel::intensity_bin;
-use pixel::saturation_bin;
+use pixel::roots;
+use pixel::saturation_by;
 use pixel::turned_back;
 ghost use mathlib.Core.Path.{_≡_};
 ghost use Prim.Native.Nat.{_*_, _+_, _<_, _≤_};
@@ -44,10 +45,11 @@ pub fn saturation_histogram(pixels: &[u8], order: &[u16], keys: &mut [u8]) -> [u
     requires { ⌜ (length (now order) ≡ length (now keys)) × (length (now keys) ≤ mostPixels) × AllIn (now order) (now pixels) ⌝ }
     ensures { λ r. ⌜ BinsCounted (pixelsOf (now (pixels .entry))) saturation (now (order .entry)) (now (keys .exit)) r ⌝ }
 {
+    let roots = roots();
     let mut h = [0u32; 42];
     let mut i = 0;
     while i < order.len() {
-        let bin = saturation_bin(pixel_at(pixels, order[i] as usize));
+        let bin = saturation_by(&roots, pixel_at(pixels, order[i] as usize));
         keys[i] = bin;
         let k = bin as usize;
         h[k] = h[k] + 1;

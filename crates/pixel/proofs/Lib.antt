@@ -4,3 +4,4 @@ pub mod Saturation
 pub mod NearRoot
 pub mod Hue
 pub mod Ranges
+pub mod Rooted

@@ -29,3 +29,7 @@ saturation-near q j s h =
     by-cond (λ (m : ℕ). m ≡ saturationOf q) (leb ((j + 1) * (j + 1)) (2 * q / 75)) (j + 1) j
     (λ e. sym (saturation-is q (j + 1) s (omega (arith, leb-true ((j + 1) * (j + 1)) (2 * q / 75) e)) (omega arith)))
     (λ e. sym (saturation-is q j s (omega arith) (omega (arith, leb-false ((j + 1) * (j + 1)) (2 * q / 75) e))))
+
+-- from the whole square root of 2Q/75 itself
+pub saturation-root : (q j : ℕ) → q ≤ 65025 → RootWithin 1 (2 * q / 75) j → j ≡ saturationOf q
+saturation-root q j s h = sym (saturation-is q j s (omega (arith, h .low)) (omega (arith, h .high)))

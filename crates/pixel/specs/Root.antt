@@ -1,13 +1,22 @@
 -- Approximating a square root, for the saturation bin. No public promise cites it. Assumes nothing.
 --   RootWithin   how near a number is to the root
+--   AllRoots     a table of roots
 --   lineOf       straight lines that run near the root, in 1024ths: for 0 to 39, 40 to 199, 200 to 699, and 700 to 1734
 use Prim.Native.Nat.{ℕ, zero, suc, _+_, _*_, _≤_, _<_}
+use mathlib.Core.Path.{_≡_}
+use mathlib.Core.List.{List}
+use lib.ListN.{length, getD}
 use Rattle.pixel.specs.declared.Line.{Line}
 
 -- j is the whole part of the square root of x, or less than w below it
 pub record RootWithin (w x j : ℕ) : Type 0 where
   pub low : j * j ≤ x
   pub high : x < (j + w) * (j + w)
+
+-- at each place its own root
+pub record AllRoots (roots : List ℕ) : Type 0 where
+  pub long : length roots ≡ 1764
+  pub each : (x : ℕ) → x < 1764 → RootWithin 1 x (getD roots x 0)
 
 unfoldable pub lineOf : ℕ → Line
 lineOf zero = record { start = 900; slope = 146 }

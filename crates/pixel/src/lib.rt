@@ -4,7 +4,7 @@ ghost use mathlib.Core.Bool.{cond, not};
 ghost use Prim.Native.Nat.{_+_, _*_, _-_, _≤_};
 ghost use lib.Dec.{leb};
 ghost use lib.ListN.{getD};
-ghost use Rattle.pixel.specs.Root.{RootWithin, lineOf};
+ghost use Rattle.pixel.specs.Root.{RootWithin, AllRoots, lineOf};
 ghost use Rattle.pixel.specs.Colour.{
   intensityBin,
   chromaSquared,
@@ -145,6 +145,32 @@ pub fn saturation_bin(p: Pixel) -> u8
     ensures { λ r. ⌜ r ≡ saturationBin p ⌝ }
 {
     saturation_of(chroma_squared(p))
+}
+
+// The square roots of 0 to 1763, rounded down: where many saturations are taken, a root is read and not computed.
+pub fn roots() -> [u8; 1764]
+    ensures { λ r. ⌜ AllRoots r ⌝ }
+{
+    let mut roots = [0u8; 1764];
+    let mut x = 0;
+    let mut j = 0;
+    while j < 42 {
+        let end = (j + 1) * (j + 1);
+        while x < end {
+            roots[x] = j as u8;
+            x += 1;
+        }
+        j += 1;
+    }
+    roots
+}
+
+// The saturation bin, with its root read from the table.
+pub fn saturation_by(roots: &[u8], p: Pixel) -> u8
+    requires { ⌜ AllRoots (now roots) ⌝ }
+    ensures { λ r. ⌜ r ≡ saturationBin p ⌝ }
+{
+    roots[(2 * chroma_squared(p) / 75) as usize]
 }
 
 // 1 if the slope b/a reaches tangent t, else 0. `bound` is 1000000·b.

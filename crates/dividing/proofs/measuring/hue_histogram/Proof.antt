@@ -7,8 +7,7 @@ use lib.ListN.{length, getD}
 use Rattle.pixel.specs.Colour.{huePoint, hueBin}
 use Rattle.pixel.proofs.Hue.{turned-quarter-le}
 use Rattle.palette.specs.Levels.{hue}
-use Rattle.palette.specs.Cards.{pixelsOf}
-use Rattle.palette.specs.Sound.{pixelAt, mostPixels}
+use Rattle.palette.specs.Sound.{mostPixels}
 use Rattle.dividing.proofs.Measured.{Passed, passed-none, passed-below, passed-few, passed-more, passed-all, coloured-hue}
 use Rattle.dividing.proofs.measuring.hue_histogram.Statement.{statement}
 use Rattle.dividing.proofs.measuring.hue_histogram.Tie as tie
@@ -31,10 +30,8 @@ byte c j = let known = c .before .before .before .shared-slice-known .given j in
 
 hue-is : (c : tie.After-hue-of Inv-loop μ-loop) → c .hue-of .result ≡ hueBin (c .before .before .pixel-at .result)
 hue-is c =
-    let e = entry (turn c) in
-    let i = turn c .loop .i in
-    coloured-hue (c .before .before .pixel-at .result) (pixelAt (pixelsOf (e .args .pixels .now)) (getD (e .args .order .now) i 0)) (c .before .turned-back .result) (c .hue-of .result) (c .before .before .pixel-at .ensures)
-    (e .pre .3 i (c .before .before .before .before .loop-test .taken)) (c .before .turned-back .ensures) (c .hue-of .ensures)
+    coloured-hue (c .before .before .pixel-at .result) _ (c .before .turned-back .result) (c .hue-of .result) (c .before .before .pixel-at .ensures)
+    (entry (turn c) .pre .3 (turn c .loop .i) (c .before .before .before .before .loop-test .taken)) (c .before .turned-back .ensures) (c .hue-of .ensures)
 
 below : (c : tie.After-hue-of Inv-loop μ-loop) → c .hue-of .result < 60
 below c =

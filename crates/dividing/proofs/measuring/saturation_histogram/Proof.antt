@@ -10,48 +10,60 @@ use Rattle.dividing.proofs.measuring.saturation_histogram.Statement.{st
 use Rattle.dividing.proofs.measuring.saturation_histogram.Tie as tie
 
 abbrev Inv-loop : tie.InvT-loop
-Inv-loop pixels order keys₀ h₀ i₀ keys h i = Passed pixels saturation order keys₀ i keys h
+Inv-loop pixels order keys₀ roots h₀ i₀ keys h i = Passed pixels saturation order keys₀ i keys h
 
 abbrev μ-loop : tie.MeasureT-loop
-μ-loop pixels order keys₀ h₀ i₀ keys h i = length order - i
+μ-loop pixels order keys₀ roots h₀ i₀ keys h i = length order - i
 
 -- the way from a turn to its beginning, and to the call
-abbrev turn : tie.After-saturation-bin Inv-loop μ-loop → tie.At-loop Inv-loop μ-loop
-turn c = c .before .before .before .before
+abbrev turn : tie.After-saturation-by Inv-loop μ-loop → tie.At-loop Inv-loop μ-loop
+turn c = c .before .before .before .before .before
 
 abbrev entry : tie.At-loop Inv-loop μ-loop → tie.Start Inv-loop μ-loop
-entry c = c .before .before .before .before
+entry c = c .before .before .before .before .before
 
 byte : (c : tie.At-loop Inv-loop μ-loop) (j : ℕ) → getD (entry c .args .pixels .now) j 0 < 256
-byte c j = let known = c .before .before .before .shared-slice-known .given j in omega arith
+byte c j = let known = c .before .before .before .before .shared-slice-known .given j in omega arith
 
-below : (c : tie.After-saturation-bin Inv-loop μ-loop) → c .saturation-bin .result < 42
+below : (c : tie.After-saturation-by Inv-loop μ-loop) → c .saturation-by .result < 42
 below c =
     let a = entry (turn c) .args in
     let l = turn c .loop in
-    passed-below (a .pixels .now) (byte (turn c)) saturation (a .order .now) (a .keys .now) (entry (turn c) .pre .0) (l .i) (l .keys) (l .h) (l .inv) (c .before .before .before .loop-test .taken)
-    (c .before .pixel-at .result) (c .before .pixel-at .ensures) (c .saturation-bin .result) (c .saturation-bin .ensures)
+    passed-below (a .pixels .now) (byte (turn c)) saturation (a .order .now) (a .keys .now) (entry (turn c) .pre .0) (l .i) (l .keys) (l .h) (l .inv) (c .before .before .before .before .loop-test .taken)
+    (c .before .pixel-at .result) (c .before .pixel-at .ensures) (c .saturation-by .result) (c .saturation-by .ensures)
 
-few : (c : tie.After-saturation-bin Inv-loop μ-loop) → getD (turn c .loop .h) (c .saturation-bin .result) 0 ≤ length (entry (turn c) .args .order .now)
+few : (c : tie.After-saturation-by Inv-loop μ-loop) → getD (turn c .loop .h) (c .saturation-by .result) 0 ≤ length (entry (turn c) .args .order .now)
 few c =
     let a = entry (turn c) .args in
     let l = turn c .loop in
-    passed-few (a .pixels .now) (byte (turn c)) saturation (a .order .now) (a .keys .now) (entry (turn c) .pre .0) (l .i) (l .keys) (l .h) (l .inv) (c .before .before .before .loop-test .taken)
-    (c .before .pixel-at .result) (c .before .pixel-at .ensures) (c .saturation-bin .result) (c .saturation-bin .ensures)
+    passed-few (a .pixels .now) (byte (turn c)) saturation (a .order .now) (a .keys .now) (entry (turn c) .pre .0) (l .i) (l .keys) (l .h) (l .inv) (c .before .before .before .before .loop-test .taken)
+    (c .before .pixel-at .result) (c .before .pixel-at .ensures) (c .saturation-by .result) (c .saturation-by .ensures)
+
+roots-requires : tie.Need-roots-requires Inv-loop μ-loop
+roots-requires c κs = search needs
 
 loop-holds : tie.Need-loop-holds Inv-loop μ-loop
 loop-holds c =
-    let a = c .before .before .before .args in
-    passed-none (a .pixels .now) (λ j. let known = c .before .before .shared-slice-known .given j in omega arith) saturation (a .order .now) (a .keys .now) (c .before .before .before .pre .0)
+    let a = c .before .before .before .before .args in
+    passed-none (a .pixels .now) (λ j. let known = c .before .before .before .shared-slice-known .given j in omega arith) saturation (a .order .now) (a .keys .now) (c .before .before .before .before .pre .0)
+
+slice-aggregate-saturation-by : tie.Need-slice-aggregate-saturation-by Inv-loop μ-loop
+slice-aggregate-saturation-by c = search needs
+
+mul-pixel-at : tie.Need-mul-pixel-at Inv-loop μ-loop
+mul-pixel-at c = search needs
+
+shared-slice-read-pixel-at : tie.Need-shared-slice-read-pixel-at Inv-loop μ-loop
+shared-slice-read-pixel-at c = search needs
 
 cast-pixel-at : tie.Need-cast-pixel-at Inv-loop μ-loop
-cast-pixel-at c = omega (arith, c .shared-slice-known3 .given (c .before .before .loop .i))
+cast-pixel-at c = omega (arith, c .shared-slice-known3 .given (c .before .before .before .loop .i))
 
 pixel-at-requires : tie.Need-pixel-at-requires Inv-loop μ-loop
-pixel-at-requires c κs = entry (c .before .before) .pre .2 (c .before .before .loop .i) (omega arith)
+pixel-at-requires c κs = entry (c .before .before .before) .pre .2 (c .before .before .before .loop .i) (omega arith)
 
-saturation-bin-requires : tie.Need-saturation-bin-requires Inv-loop μ-loop
-saturation-bin-requires c κs = search needs
+saturation-by-requires : tie.Need-saturation-by-requires Inv-loop μ-loop
+saturation-by-requires c κs = c .before .before .before .before .before .roots .ensures
 
 slice-write-keys : tie.Need-slice-write-keys Inv-loop μ-loop
 slice-write-keys c = search needs
@@ -85,8 +97,8 @@ loop-again : tie.Need-loop-again Inv-loop μ-loop
 loop-again c =
     let a = entry (turn c) .args in
     let l = turn c .loop in
-    passed-more (a .pixels .now) (byte (turn c)) saturation (a .order .now) (a .keys .now) (entry (turn c) .pre .0) (l .i) (l .keys) (l .h) (l .inv) (c .before .before .before .loop-test .taken)
-    (c .before .pixel-at .result) (c .before .pixel-at .ensures) (c .saturation-bin .result) (c .saturation-bin .ensures)
+    passed-more (a .pixels .now) (byte (turn c)) saturation (a .order .now) (a .keys .now) (entry (turn c) .pre .0) (l .i) (l .keys) (l .h) (l .inv) (c .before .before .before .before .loop-test .taken)
+    (c .before .pixel-at .result) (c .before .pixel-at .ensures) (c .saturation-by .result) (c .saturation-by .ensures)
 
 same-length : tie.Need-same-length Inv-loop μ-loop
 same-length c = c .before .loop .inv .long
@@ -103,12 +115,14 @@ saturation-histogram-spec =
     (tie.spec
     Inv-loop
     μ-loop
+    roots-requires
     loop-holds
-    (λ c. search needs)
-    (λ c. search needs)
+    slice-aggregate-saturation-by
+    mul-pixel-at
+    shared-slice-read-pixel-at
     cast-pixel-at
     pixel-at-requires
-    saturation-bin-requires
+    saturation-by-requires
     slice-write-keys
     cast-k
     mul-h

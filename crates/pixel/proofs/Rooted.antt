@@ -1,0 +1,27 @@
+-- A table of square roots, filled place by place. Assumes nothing.
+use Prim.Native.Nat.{ℕ, _+_, _*_, _≤_, _<_}
+use mathlib.Core.Path.{_≡_, sym, _∙_}
+use mathlib.Core.List.{List}
+use native.Mathlib.Omega.{arith}
+use native.Mathlib.Nat.{mul-le-mul}
+use lib.ListN.{length, getD, set, length-set}
+use lib.Seq.{getD-set-same, getD-set-other}
+use Rattle.lists.proofs.Cases.{by-order}
+use Rattle.pixel.specs.Root.{RootWithin}
+
+-- the first x places have their roots
+pub record Rooted (roots : List ℕ) (x : ℕ) : Type 0 where
+  pub long : length roots ≡ 1764
+  pub each : (y : ℕ) → y < x → RootWithin 1 y (getD roots y 0)
+
+pub rooted-more : (roots : List ℕ) (x j : ℕ) → Rooted roots x → x < 1764 → RootWithin 1 x j → Rooted (set roots x j) (x + 1)
+rooted-more roots x j s l w = record {
+  long = simp length-set (s .long);
+  each = λ y k.
+      by-order y x (λ u. rw (getD-set-other roots x y j 0 (λ e. omega arith)) (s .each y u))
+      (λ u. let z : y ≡ x = omega arith in rw (z, getD-set-same roots x j 0 (omega (arith, s .long))) w);
+}
+
+-- 42 runs are all of the table
+pub run-le : (j : ℕ) → j < 42 → (j + 1) * (j + 1) ≤ 1764
+run-le j l = let k : j + 1 ≤ 42 = omega arith in omega (arith, mul-le-mul k k)
