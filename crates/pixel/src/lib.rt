@@ -234,8 +234,8 @@ fn differ(a: bool, b: bool) -> bool
 }
 
 // The hue point, u = 1732051·(G−B) and v = 1000000·(G+B−2R), turned back. It lies in the upper half where v > 0, or v = 0 and u > 0, and in the right
-// half where u > 0, or u = 0 and v ≤ 0. Adding 1 to the larger side decides the tie. Nothing here branches: with the noise of a cloth, branches would often
-// be mispredicted.
+// half where u > 0, or u = 0 and v ≤ 0. Each test adds 1 to one side where the other coordinate decides a tie. Nothing here branches: with the noise
+// of a cloth, branches would often be mispredicted.
 pub fn turned_back(p: Pixel) -> Turned
     ensures { λ r. ⌜ r ≡ turnedOf (huePoint p) ⌝ }
 {
