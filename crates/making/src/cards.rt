@@ -20,8 +20,7 @@ fn held(total: usize) -> usize
     if MOST_ENTRIES < total { 0 } else { total }
 }
 
-// The entries, in lent scratch: at least a place in each list for each pixel, and one for each entry that a card may hold.
-// The pixels' numbers are left in `order`, entry by entry, and how many each entry has in `sizes`.
+// The entries, in lent scratch with a place or more for each pixel. The pixels' numbers are left in `order`, entry by entry, and each entry's count in `sizes`.
 pub fn make_entries(
     pixels: &[u8],
     closeness: u32,
