@@ -37,7 +37,7 @@
 //!
 //! # Stack, heap and threads
 //!
-//! The engine keeps everything on the stack: a card call takes up to 380 KB of it, [`print_card`] up to 196 KB, whatever the
+//! The engine keeps everything on the stack: a card call takes up to 382 KB of it, [`print_card`] up to 198 KB, whatever the
 //! image, every other call less than 32 KB. **A thread that makes cards needs 1 MB.** Threads of the standard library
 //! have 2 MB by default. The engine keeps no state, so calls may run on many threads at once.
 //!
