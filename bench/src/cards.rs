@@ -8,6 +8,7 @@ use cloths::yarns::{woven, yarns};
 use engine::IntoRaw;
 use reference::calls::CardAnswer;
 use std::hint::black_box;
+use std::process::ExitCode;
 
 /// So little that a grey yarn's pixels all stay grey.
 const NOISE: u32 = 2;
@@ -61,6 +62,22 @@ fn fast_card(bytes: &[u8], closeness: u32) -> (CardAnswer, Vec<u8>) {
     let mut labels = vec![0; bytes.len() / 3];
     let answer = fast_cards::card(bytes, closeness, &mut labels, &mut Scratch::default());
     (answer, labels)
+}
+
+/// Makes the card of one cloth with the engine and with the Rust program, and prints the cloth's name.
+pub fn once(number: &str) -> ExitCode {
+    let cloths = cloths();
+    let number = number.parse::<usize>().unwrap_or(0);
+    let Some(cloth) = number.checked_sub(1).and_then(|index| cloths.get(index)) else {
+        eprintln!("there are {} cloths", cloths.len());
+        return ExitCode::from(2);
+    };
+    let mut bytes = cloth.swatch.bytes();
+    let mut labels = vec![0; cloth.swatch.pixels.len()];
+    black_box(engine::card(&mut bytes, CLOSENESS, &mut labels));
+    black_box(fast_card(&bytes, CLOSENESS));
+    println!("{}", cloth.name);
+    ExitCode::SUCCESS
 }
 
 pub fn time(cloths: &[Cloth]) {

@@ -1,6 +1,6 @@
-//! The card, written for speed with the engine's tricks: each pixel is measured once and its bins are kept; then every
-//! pixel holds the number of its node, and one pass for each level moves all pixels on and counts the histograms of all
-//! nodes at once.
+//! The card, in the fastest form we know: each pixel is measured once and its three bins are kept; then every pixel holds the
+//! number of its node, and one pass for each level moves all pixels on and counts the histograms of all nodes at once. The
+//! engine sorts instead, node by node, which takes less memory and needs no table of nodes.
 
 use crate::fast::line_modes;
 use reference::calls::{CardAnswer, MOST_ENTRIES};
@@ -78,7 +78,9 @@ pub struct Scratch {
     by_intensity: Vec<[u16; INTENSITIES]>,
 }
 
-/// The answer to a call that can be turned down only for its number of entries.
+/// The answer to a call that can be turned down only for its number of entries. Never put into its caller, so that its
+/// instructions can be counted.
+#[inline(never)]
 pub fn card(bytes: &[u8], closeness: u32, labels: &mut [u8], scratch: &mut Scratch) -> CardAnswer {
     let pixels = bytes.len() / 3;
     let Scratch {

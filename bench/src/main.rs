@@ -4,7 +4,8 @@
 //!
 //!     cargo run --release
 //!
-//! KISTROVU_LIB names another folder to take `libkistrovu.a` from; `--only cards` times only cards. Both are first compared
+//! KISTROVU_LIB names another folder to take `libkistrovu.a` from; `--only cards` times only cards, and `--once N` makes the
+//! card of cloth N (from 1) once each way and times nothing, for a program that counts instructions. Both are first compared
 //! with the reference; a wrong answer is not timed and ends the run. Where the reference would take too long for a line,
 //! shorter lines of the same kind are compared with it, and at full length the engine is compared with the Rust program.
 //! The two take turns in short rounds, and the figures are medians over the rounds: times of different runs do not compare
@@ -36,11 +37,13 @@ const RISING: bool = true;
 
 fn main() -> ExitCode {
     let words: Vec<String> = std::env::args().skip(1).collect();
-    let only_cards = match words.join(" ").as_str() {
-        "" => false,
-        "--only cards" => true,
+    let words: Vec<&str> = words.iter().map(String::as_str).collect();
+    let only_cards = match words[..] {
+        [] => false,
+        ["--only", "cards"] => true,
+        ["--once", number] => return cards::once(number),
         _ => {
-            eprintln!("usage: bench [--only cards]");
+            eprintln!("usage: bench [--only cards | --once N]");
             return ExitCode::from(2);
         }
     };

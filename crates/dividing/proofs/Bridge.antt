@@ -22,7 +22,7 @@ use Rattle.palette.specs.Cards.{Branch, members, histogramIn, modesFound, inChi
 use Rattle.palette.specs.Sound.{pixelAt}
 use Rattle.palette.proofs.LevelBins.{bin-below, bin-in-one-mode}
 use Rattle.palette.proofs.Partition.{histogram-in-length, child-has}
-use Rattle.dividing.specs.Sorted.{tally, marked}
+use Rattle.dividing.specs.Sorted.{modeBase, tally, marked}
 use Rattle.dividing.specs.Splitting.{levelAt, levelsLeft, modeOf, binsOf, modesOf, marksOf, leaves, numbersOf, codeOf, leafOf}
 
 -- ---- lists
@@ -111,11 +111,11 @@ module _ (e : Closeness) (ps : List Pixel) (bytes : (i : ℕ) → Bytes (pixelAt
   -- the code of a branch with so many levels left
   abbrev pub codeAt : ℕ → Branch → ℕ
   codeAt zero b = codeOf b
-  codeAt (suc zero) b = (b .kind * 64 + b .hue) * 64 + b .saturation
-  codeAt (suc (suc zero)) b = b .kind * 64 + b .hue
+  codeAt (suc zero) b = (b .kind * modeBase + b .hue) * modeBase + b .saturation
+  codeAt (suc (suc zero)) b = b .kind * modeBase + b .hue
   codeAt (suc (suc (suc n))) b = b .kind
 
-  code-child : (left : ℕ) (b : Branch) (m : ℕ) → left ≤ 2 → codeAt left (child e ps (levelAt (suc left)) b m) ≡ codeAt (suc left) b * 64 + m
+  code-child : (left : ℕ) (b : Branch) (m : ℕ) → left ≤ 2 → codeAt left (child e ps (levelAt (suc left)) b m) ≡ codeAt (suc left) b * modeBase + m
   unfolding child
   code-child zero b m l = refl
   code-child (suc zero) b m l = refl
@@ -129,7 +129,7 @@ module _ (e : Closeness) (ps : List Pixel) (bytes : (i : ℕ) → Bytes (pixelAt
       let v = levelAt (suc left) in
       let xs = numbersOf ps b in
       let keys = binsOf ps v xs in
-      ap (λ (n : ℕ). flatMap (λ m. leaves e ps left (codeAt (suc left) b * 64 + m) (marked m (marksOf e v keys) xs)) (numbers 0 n)) (modes-are v b)
+      ap (λ (n : ℕ). flatMap (λ m. leaves e ps left (codeAt (suc left) b * modeBase + m) (marked m (marksOf e v keys) xs)) (numbers 0 n)) (modes-are v b)
       ∙ flat-map-same _ (λ m. map (leafOf ps) (divide e ps (levelsLeft left) (child e ps v b m))) (numbers 0 (modesFound e ps v b))
       (each-number _ 0 (modesFound e ps v b) (λ m a k.
       ap₂ (leaves e ps left) (sym (code-child left b m (omega arith))) (mode-range v b m (omega arith))

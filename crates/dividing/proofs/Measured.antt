@@ -10,7 +10,7 @@ use Rattle.lists.specs.Lists.{over}
 use Rattle.lists.proofs.Buffers.{over-none, over-next, over-done}
 use Rattle.pixel.specs.declared.Pixel.{Pixel}
 use Rattle.pixel.specs.declared.Turned.{Turned}
-use Rattle.pixel.specs.Colour.{isGrey, huePoint, turnedOf, tangentsPassed, hueOf, hueBin}
+use Rattle.pixel.specs.Colour.{isGrey, huePoint, turnedOf, hueAt, hueOf, hueBin}
 use Rattle.palette.specs.Levels.{Level, binCount, binOf}
 use Rattle.palette.specs.Cards.{pixelsOf}
 use Rattle.palette.specs.Sound.{pixelAt}
@@ -22,8 +22,7 @@ use Rattle.dividing.proofs.Tallies.{tally-le, tally-none, tally-more}
 use Rattle.dividing.proofs.Ranges.{bins-length, bins-at}
 
 -- a colour's hue needs no test for grey
-pub coloured-hue : (p q : Pixel) (t : Turned) (bin : ℕ) → p ≡ q → isGrey q ≡ false → t ≡ turnedOf (huePoint p) → bin ≡ 15 * t .quarter + tangentsPassed (t .a) (t .b)
-    → bin ≡ hueBin p
+pub coloured-hue : (p q : Pixel) (t : Turned) (bin : ℕ) → p ≡ q → isGrey q ≡ false → t ≡ turnedOf (huePoint p) → bin ≡ hueAt t → bin ≡ hueBin p
 unfolding hueBin hueOf
 coloured-hue p q t bin e g turned b = rw (ap isGrey e ∙ g, sym turned) b
 

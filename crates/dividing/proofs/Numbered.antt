@@ -21,9 +21,9 @@ use Rattle.segmentation.specs.Ring.{opening, opened, ringBin, linePlace, ringMo
 use Rattle.segmentation.proofs.Finishing.{modes-cut, separators-length, separator-at}
 use Rattle.segmentation.proofs.OneMode.{one-mode, in-mode, in-last-mode}
 use Rattle.segmentation.proofs.RingPlaces.{ring-length, place-in, place-bin}
-use Rattle.palette.specs.Levels.{hue, intensity}
+use Rattle.palette.specs.Levels.{hue}
 use Rattle.dividing.specs.Splitting.{modeOf}
-use Rattle.dividing.specs.Numbering.{RisesFromZero, Begun, PlacesNumbered, BinsNumbered}
+use Rattle.dividing.specs.Numbering.{RisesFromZero, Begun, PlacesNumbered, BinsNumbered, LineNumbered}
 
 -- the one of the numbers below n that passes is the first that does
 pub first-of-one : (n : ℕ) (test : ℕ → Bool) → ExactlyOne n test → (m : ℕ) → m < n → test m ≡ true → firstIndex test (numbers 0 n) ≡ m
@@ -73,17 +73,24 @@ module _ (e : Closeness) (h : List ℕ) (two : 2 ≤ length h) (buffer : List �
       let ss = lineModes e h in
       first-of-one (length ss) (λ k. inMode ss k i) (one-mode (length h) ss (modes-cut e h two) i l) m (b .mode) (begun-in m i b l)
 
+  bin-numbered : (next : List ℕ) → length next ≡ length h
+      → PlacesNumbered (over (lineSeparators e h) buffer) (length (lineModes e h)) 0 next
+      → (b : ℕ) → b < length h → getD next b 0 ≡ firstIndex (λ k. inMode (lineModes e h) k b) (numbers 0 (length (lineModes e h)))
+  unfolding held
+  bin-numbered next same p b l =
+      let r = p b (omega arith) in
+      let z : (0 + b) % length next ≡ b = mod-below (0 + b) (length next) (omega arith) ∙ omega arith in
+      ap (λ (k : ℕ). getD next k 0) (sym z) ∙ r .2 ∙ sym (begun-mode (r .0) b (r .1) l)
+
   pub line-numbered : (next : List ℕ) → length next ≡ length h
       → PlacesNumbered (over (lineSeparators e h) buffer) (length (lineModes e h)) 0 next
-      → BinsNumbered e intensity h next (length (lineModes e h))
-  unfolding held modeOf
-  line-numbered next same p = record {
-    found = refl;
-    numbered = λ b l.
-        let r = p b (omega arith) in
-        let z : (0 + b) % length next ≡ b = mod-below (0 + b) (length next) (omega arith) ∙ omega arith in
-        ap (λ (k : ℕ). getD next k 0) (sym z) ∙ r .2 ∙ sym (begun-mode (r .0) b (r .1) l);
-  }
+      → LineNumbered e h next (length (lineModes e h))
+  unfolding modeOf
+  line-numbered next same p =
+      record {
+        saturations = record { found = refl; numbered = bin-numbered next same p };
+        intensities = record { found = refl; numbered = bin-numbered next same p };
+      }
 
 -- ---- a ring
 pub ring-numbered : (e : Closeness) (h : List ℕ) → 2 ≤ length h → (buffer : List ℕ) (next : List ℕ) → length next ≡ length h

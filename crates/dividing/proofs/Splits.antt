@@ -16,7 +16,7 @@ use Rattle.lists.proofs.Flattened.{flat-map-append, flat-map-few, map-same}
 use Rattle.pixel.specs.declared.Pixel.{Pixel}
 use Rattle.verdict.specs.Test.{Closeness}
 use Rattle.palette.specs.Levels.{Level, binCount}
-use Rattle.dividing.specs.Sorted.{tally, marked, sortedBy}
+use Rattle.dividing.specs.Sorted.{modeBase, tally, marked, sortedBy}
 use Rattle.dividing.specs.Splitting.{AllIn, levelAt, Leaf, binsOf, modesOf, marksOf, leaves, walked, resting, Split}
 use Rattle.dividing.proofs.Tallies.{tally-length}
 use Rattle.dividing.proofs.Scattering.{marked-length}
@@ -87,26 +87,26 @@ module _ (e : Closeness) (ps : List Pixel) where
       (ap (λ zs. leaves e ps left (c + m) (f m) ++ zs) (walked-flat left c (suc m) k f rest))
 
   pub walk-all : (left code : ℕ) (xs sizes sorted : List ℕ) (n : ℕ) → 1 ≤ left
-      → n ≡ modesOf e (levelAt left) (binsOf ps (levelAt left) xs) → n ≤ 64
-      → sizes ≡ tally 64 (marksOf e (levelAt left) (binsOf ps (levelAt left) xs)) → sorted ≡ sortedBy 64 (marksOf e (levelAt left) (binsOf ps (levelAt left) xs)) xs
-      → walked e ps (left - 1) (code * 64) (take n sizes) sorted ≡ leaves e ps left code xs
+      → n ≡ modesOf e (levelAt left) (binsOf ps (levelAt left) xs) → n ≤ modeBase
+      → sizes ≡ tally modeBase (marksOf e (levelAt left) (binsOf ps (levelAt left) xs)) → sorted ≡ sortedBy modeBase (marksOf e (levelAt left) (binsOf ps (levelAt left) xs)) xs
+      → walked e ps (left - 1) (code * modeBase) (take n sizes) sorted ≡ leaves e ps left code xs
   unfolding leaves sortedBy tally marksOf
   walk-all zero code xs sizes sorted n some q few s o = absurd (omega arith)
   walk-all (suc left) code xs sizes sorted n some q few s o =
       let l = levelAt (suc left) in
       let ks = marksOf e l (binsOf ps l xs) in
       let f : ℕ → List ℕ = λ m. marked m ks xs in
-      let rest = flatMap f (numbers (0 + n) (64 - n)) in
+      let rest = flatMap f (numbers (0 + n) (modeBase - n)) in
       let z : suc left - 1 ≡ left = omega arith in
-      let w : code * 64 + 0 ≡ code * 64 = omega arith in
-      let both : numbers 0 64 ≡ numbers 0 n ++ numbers (0 + n) (64 - n) = ap (numbers 0) (omega arith) ∙ numbers-both 0 n (64 - n) in
+      let w : code * modeBase + 0 ≡ code * modeBase = omega arith in
+      let both : numbers 0 modeBase ≡ numbers 0 n ++ numbers (0 + n) (modeBase - n) = ap (numbers 0) (omega arith) ∙ numbers-both 0 n (modeBase - n) in
       let same : length ks ≡ length xs = length-map (binsOf ps l xs) _ ∙ bins-length ps l xs in
-      let counts : take n (tally 64 ks) ≡ map (λ j. length (f j)) (numbers 0 n) =
-      ap (take n) (ap (map (λ k. countIf (eqb k) ks)) both ∙ map-append (λ k. countIf (eqb k) ks) (numbers 0 n) (numbers (0 + n) (64 - n)))
+      let counts : take n (tally modeBase ks) ≡ map (λ j. length (f j)) (numbers 0 n) =
+      ap (take n) (ap (map (λ k. countIf (eqb k) ks)) both ∙ map-append (λ k. countIf (eqb k) ks) (numbers 0 n) (numbers (0 + n) (modeBase - n)))
       ∙ take-at (map (λ k. countIf (eqb k) ks) (numbers 0 n)) _ n (length-map (numbers 0 n) _ ∙ numbers-length 0 n)
       ∙ map-same _ _ (numbers 0 n) (each-all _ (numbers 0 n) (λ m. sym (marked-length m ks xs same))) in
-      let parted : sortedBy 64 ks xs ≡ flatMap f (numbers 0 n) ++ rest = ap (flatMap f) both ∙ flat-map-append f (numbers 0 n) (numbers (0 + n) (64 - n)) in
-      rw (z, s, o, counts, parted) (ap (λ (c : ℕ). walked e ps left c (map (λ j. length (f j)) (numbers 0 n)) (flatMap f (numbers 0 n) ++ rest)) (sym w) ∙ walked-flat left (code * 64) 0 n f rest ∙ ap (λ (j : ℕ). flatMap (λ m. leaves e ps left (code * 64 + m) (f m)) (numbers 0 j)) q)
+      let parted : sortedBy modeBase ks xs ≡ flatMap f (numbers 0 n) ++ rest = ap (flatMap f) both ∙ flat-map-append f (numbers 0 n) (numbers (0 + n) (modeBase - n)) in
+      rw (z, s, o, counts, parted) (ap (λ (c : ℕ). walked e ps left c (map (λ j. length (f j)) (numbers 0 n)) (flatMap f (numbers 0 n) ++ rest)) (sym w) ∙ walked-flat left (code * modeBase) 0 n f rest ∙ ap (λ (j : ℕ). flatMap (λ m. leaves e ps left (code * modeBase + m) (f m)) (numbers 0 j)) q)
 
 -- ---- each number is still a pixel's
 each-marked : (P : ℕ → Type 0) (m : ℕ) (ks xs : List ℕ) → Each P xs → Each P (marked m ks xs)
@@ -124,22 +124,22 @@ sorted-in n ks xs bytes h =
     each-at P (sortedBy n ks xs) 0 (each-flat-map P (λ m. marked m ks xs) (numbers 0 n) (each-all _ (numbers 0 n) (λ m. each-marked P m ks xs (each-from P xs 0 h))))
 
 -- ---- room for what is found: no level has more than 64 modes
-pub room-more : (left : ℕ) → 1 ≤ left → 64 ^ left ≡ 64 * 64 ^ (left - 1)
+pub room-more : (left : ℕ) → 1 ≤ left → modeBase ^ left ≡ modeBase * modeBase ^ (left - 1)
 room-more zero l = absurd (omega arith)
 room-more (suc n) l =
     let z : suc n - 1 ≡ n = omega arith in
     rw z (simp unary-clauses (omega arith))
 
-pub room-some : (left : ℕ) → 1 ≤ 64 ^ left
+pub room-some : (left : ℕ) → 1 ≤ modeBase ^ left
 room-some zero = omega arith
 room-some (suc n) = let z : suc n - 1 ≡ n = omega arith in omega (arith, rw z at (room-more (suc n) (omega arith)), room-some n)
 
 module _ (e : Closeness) (ps : List Pixel) where
-  pub modes-64 : (l : Level) (keys : List ℕ) → modesOf e l keys ≤ 64
+  pub modes-in-base : (l : Level) (keys : List ℕ) → modesOf e l keys ≤ modeBase
   unfolding modesOf
-  modes-64 l keys = omega (arith, modes-digit e l (tally (binCount l) keys) (tally-length (binCount l) keys))
+  modes-in-base l keys = omega (arith, modes-digit e l (tally (binCount l) keys) (tally-length (binCount l) keys))
 
-  pub leaves-few : (left code : ℕ) (xs : List ℕ) → length (leaves e ps left code xs) ≤ 64 ^ left
+  pub leaves-few : (left code : ℕ) (xs : List ℕ) → length (leaves e ps left code xs) ≤ modeBase ^ left
   unfolding leaves
   leaves-few zero code xs = omega arith
   leaves-few (suc left) code xs =
@@ -147,5 +147,5 @@ module _ (e : Closeness) (ps : List Pixel) where
       let keys = binsOf ps l xs in
       let z : suc left - 1 ≡ left = omega arith in
       let ms = numbers 0 (modesOf e l keys) in
-      let few = flat-map-few (λ m. leaves e ps left (code * 64 + m) (marked m (marksOf e l keys) xs)) (64 ^ left) ms (λ m. leaves-few left (code * 64 + m) (marked m (marksOf e l keys) xs)) in
-      omega (arith, few, rw z at (room-more (suc left) (omega arith)), ap (λ (j : ℕ). j * 64 ^ left) (numbers-length 0 (modesOf e l keys)), mul-le-mul-right (64 ^ left) (modes-64 l keys))
+      let few = flat-map-few (λ m. leaves e ps left (code * modeBase + m) (marked m (marksOf e l keys) xs)) (modeBase ^ left) ms (λ m. leaves-few left (code * modeBase + m) (marked m (marksOf e l keys) xs)) in
+      omega (arith, few, rw z at (room-more (suc left) (omega arith)), ap (λ (j : ℕ). j * modeBase ^ left) (numbers-length 0 (modesOf e l keys)), mul-le-mul-right (modeBase ^ left) (modes-in-base l keys))

@@ -15,14 +15,14 @@ use Rattle.pixel.specs.declared.Pixel.{Pixel}
 use Rattle.verdict.specs.Test.{Closeness}
 use Rattle.palette.specs.Levels.{Level, binCount}
 use Rattle.palette.specs.Cards.{pixelsOf}
-use Rattle.dividing.specs.Sorted.{AllBelow, tally}
+use Rattle.dividing.specs.Sorted.{codeCount, modeBase, AllBelow, tally}
 use Rattle.dividing.specs.Splitting.{AllIn, levelAt, binsOf, modesOf, marksOf, modeOf, LevelSorted, leaves, walked, resting, Split}
 use Rattle.dividing.proofs.Tallies.{tally-length}
 use Rattle.dividing.proofs.Scattering.{start-all}
 use Rattle.dividing.proofs.Gathering.{sums-start}
 use Rattle.dividing.proofs.Ranges.{bins-length}
 use Rattle.dividing.proofs.LevelSort.{mode-below, keys-below}
-use Rattle.dividing.proofs.Splits.{split-none, split-both, resting-both, walk-all, sorted-in, room-more, room-some, modes-64, leaves-few}
+use Rattle.dividing.proofs.Splits.{split-none, split-both, resting-both, walk-all, sorted-in, room-more, room-some, modes-in-base, leaves-few}
 
 -- ---- from splitting to walking
 marks-in : (e : Closeness) (l : Level) (keys : List ℕ) → AllBelow keys (binCount l) → AllBelow (marksOf e l keys) (modesOf e l keys)
@@ -35,42 +35,42 @@ marks-in e l keys below i k =
 pub record Walkable (left code found : ℕ) (bytes xs sizes sorted : List ℕ) (n : ℕ) : Type 0 where
   pub fits : n ≤ length sizes
   pub long : length (take n sizes) ≡ n
-  pub room : found + length (take n sizes) * 64 ^ (left - 1) ≤ 2 ^ 32
-  pub digits : (code * 64 + length (take n sizes)) * 64 ^ (left - 1) ≤ 2 ^ 20
+  pub room : found + length (take n sizes) * modeBase ^ (left - 1) ≤ 2 ^ 32
+  pub digits : (code * modeBase + length (take n sizes)) * modeBase ^ (left - 1) ≤ codeCount
   pub inside : AllIn sorted bytes
   pub whole : total (take n sizes) ≡ length xs
 
 pub split-walkable : (e : Closeness) (bytes : List ℕ) → ((j : ℕ) → getD bytes j 0 < 256) → (left code found : ℕ) (xs sizes sorted : List ℕ) (n : ℕ) → 1 ≤ left
-    → found + 64 ^ left ≤ 2 ^ 32 → (code + 1) * 64 ^ left ≤ 2 ^ 20 → AllIn xs bytes
+    → found + modeBase ^ left ≤ 2 ^ 32 → (code + 1) * modeBase ^ left ≤ codeCount → AllIn xs bytes
     → LevelSorted e (levelAt left) (binsOf (pixelsOf bytes) (levelAt left) xs) xs sizes sorted n → Walkable left code found bytes xs sizes sorted n
 unfolding marksOf
 split-walkable e bytes byte left code found xs sizes sorted n some room digits inside s =
     let l = levelAt left in
     let keys = binsOf (pixelsOf bytes) l xs in
     let ks = marksOf e l keys in
-    let few : n ≤ 64 = omega (arith, s .modes, modes-64 e (pixelsOf bytes) l keys) in
-    let sized : length sizes ≡ 64 = ap length (s .counts) ∙ tally-length 64 ks in
+    let few : n ≤ modeBase = omega (arith, s .modes, modes-in-base e (pixelsOf bytes) l keys) in
+    let sized : length sizes ≡ modeBase = ap length (s .counts) ∙ tally-length modeBase ks in
     let long : length (take n sizes) ≡ n = length-take-le n sizes (omega arith) in
     let below : AllBelow ks n = rw (s .modes) (marks-in e l keys (keys-below bytes byte l xs keys refl)) in
     let more = room-more left some in
-    let times = mul-le-mul-right (64 ^ (left - 1)) few in
+    let times = mul-le-mul-right (modeBase ^ (left - 1)) few in
     record {
       fits = omega arith;
       long = long;
       room = rw long (omega arith);
       digits = rw long (omega (arith, ap (λ (j : ℕ). code * j) more));
-      inside = rw (s .order) (sorted-in 64 ks xs bytes inside);
-      whole = ap (λ (z : List ℕ). total (take n z)) (s .counts) ∙ sums-start 64 ks n few ∙ start-all ks n below ∙ length-map keys _ ∙ bins-length (pixelsOf bytes) l xs;
+      inside = rw (s .order) (sorted-in modeBase ks xs bytes inside);
+      whole = ap (λ (z : List ℕ). total (take n z)) (s .counts) ∙ sums-start modeBase ks n few ∙ start-all ks n below ∙ length-map keys _ ∙ bins-length (pixelsOf bytes) l xs;
     }
 
 pub split-walked : (e : Closeness) (ps : List Pixel) (left code found : ℕ) (xs sizes sorted : List ℕ) (n : ℕ) (codes figures codes′ figures′ a b : List ℕ) (found′ : ℕ) → 1 ≤ left
     → LevelSorted e (levelAt left) (binsOf ps (levelAt left) xs) xs sizes sorted n
-    → Split (walked e ps (left - 1) (code * 64) (take n sizes) sorted) found codes figures codes′ figures′ (resting (left - 1) b a) found′
+    → Split (walked e ps (left - 1) (code * modeBase) (take n sizes) sorted) found codes figures codes′ figures′ (resting (left - 1) b a) found′
     → Split (leaves e ps left code xs) found codes figures codes′ figures′ (resting left a b) found′
 split-walked e ps zero code found xs sizes sorted n codes figures codes′ figures′ a b found′ some s r = absurd (omega arith)
 split-walked e ps (suc left) code found xs sizes sorted n codes figures codes′ figures′ a b found′ some s r =
     let z : suc left - 1 ≡ left = omega arith in
-    let few : n ≤ 64 = omega (arith, s .modes, modes-64 e ps (levelAt (suc left)) (binsOf ps (levelAt (suc left)) xs)) in
+    let few : n ≤ modeBase = omega (arith, s .modes, modes-in-base e ps (levelAt (suc left)) (binsOf ps (levelAt (suc left)) xs)) in
     let all = walk-all e ps (suc left) code xs sizes sorted n some (s .modes) few (s .counts) (s .order) in
     rw (z) at (rw all at r)
 
@@ -105,7 +105,7 @@ walked-last e ps left code (r ∷ ss) s xs ys t l =
     (walked-last e ps left (suc code) ss s (drop r xs) ys (omega (arith, length-drop r xs)) l ∙ ap (λ (j : ℕ). walked e ps left (suc code) ss (drop r xs) ++ leaves e ps left j ys) z)
     ∙ sym (append-assoc (leaves e ps left code (take r xs)) (walked e ps left (suc code) ss (drop r xs)) (leaves e ps left (code + suc (length ss)) ys))
 
-walked-few : (e : Closeness) (ps : List Pixel) (left code : ℕ) (ss xs : List ℕ) → length (walked e ps left code ss xs) ≤ length ss * 64 ^ left
+walked-few : (e : Closeness) (ps : List Pixel) (left code : ℕ) (ss xs : List ℕ) → length (walked e ps left code ss xs) ≤ length ss * modeBase ^ left
 unfolding walked
 walked-few e ps left code [] xs = omega arith
 walked-few e ps left code (s ∷ ss) xs =
@@ -185,21 +185,21 @@ module _ (e : Closeness) (bytes : List ℕ) (left code found : ℕ) (parts : Lis
       pub walks-fit : at + getD parts m 0 ≤ length (l₀ .order)
       walks-fit = omega (arith, next-start, total-take-le (m + 1) parts)
 
-      pub walks-room : found + length parts * 64 ^ left ≤ 2 ^ 32 → found′ + 64 ^ left ≤ 2 ^ 32
+      pub walks-room : found + length parts * modeBase ^ left ≤ 2 ^ 32 → found′ + modeBase ^ left ≤ 2 ^ 32
       walks-room room =
           let some : m + 1 ≤ length parts = omega arith in
           omega (
             arith,
             w .walkedSo .count,
             walked-few e (pixelsOf bytes) left code (take m parts) (take at (l₀ .order)),
-            ap (λ (j : ℕ). j * 64 ^ left) (length-take-le m parts (omega arith)),
-            mul-le-mul-right (64 ^ left) some,
+            ap (λ (j : ℕ). j * modeBase ^ left) (length-take-le m parts (omega arith)),
+            mul-le-mul-right (modeBase ^ left) some,
           )
 
-      pub walks-digits : (code + length parts) * 64 ^ left ≤ 2 ^ 20 → (code + m + 1) * 64 ^ left ≤ 2 ^ 20
+      pub walks-digits : (code + length parts) * modeBase ^ left ≤ codeCount → (code + m + 1) * modeBase ^ left ≤ codeCount
       walks-digits digits =
           let some : code + m + 1 ≤ code + length parts = omega arith in
-          omega (arith, mul-le-mul-right (64 ^ left) some)
+          omega (arith, mul-le-mul-right (modeBase ^ left) some)
 
       pub walks-in : AllIn (l₀ .order) bytes → AllIn (take (at + getD parts m 0 - at) (drop at (l .order))) bytes
       walks-in inside i k =
@@ -244,10 +244,10 @@ module _ (e : Closeness) (bytes : List ℕ) (left code found : ℕ) (parts : Lis
           }
 
 -- ---- codes stay small
-pub code-times : (left code : ℕ) → 1 ≤ left → (code + 1) * 64 ^ left ≤ 2 ^ 20 → code * 64 < 2 ^ 20
+pub code-times : (left code : ℕ) → 1 ≤ left → (code + 1) * modeBase ^ left ≤ codeCount → code * modeBase < codeCount
 code-times left code some h =
-    let more : 64 ≤ 64 ^ left = omega (arith, room-more left some, room-some (left - 1)) in
+    let more : modeBase ≤ modeBase ^ left = omega (arith, room-more left some, room-some (left - 1)) in
     omega (arith, mul-le-mul-left (code + 1) more)
 
-pub code-next : (left code n : ℕ) → (code + n) * 64 ^ left ≤ 2 ^ 20 → code + n ≤ 2 ^ 20
+pub code-next : (left code n : ℕ) → (code + n) * modeBase ^ left ≤ codeCount → code + n ≤ codeCount
 code-next left code n h = omega (arith, mul-le-mul-left (code + n) (room-some left))

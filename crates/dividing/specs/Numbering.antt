@@ -4,7 +4,7 @@ use mathlib.Core.Path.{_≡_}
 use mathlib.Core.List.{List}
 use lib.ListN.{length, getD}
 use Rattle.verdict.specs.Test.{Closeness}
-use Rattle.palette.specs.Levels.{Level, modesAt}
+use Rattle.palette.specs.Levels.{Level, saturation, intensity, modesAt}
 use Rattle.dividing.specs.Splitting.{modeOf}
 
 -- n separators rise from 0
@@ -33,3 +33,8 @@ PlacesNumbered separators n opening modes =
 pub record BinsNumbered (e : Closeness) (l : Level) (h : List ℕ) (modes : List ℕ) (n : ℕ) : Type 0 where
   pub found : n ≡ length (modesAt e l h)
   pub numbered : (b : ℕ) → b < length h → getD modes b 0 ≡ modeOf e l h b
+
+-- at whichever of the two levels whose bins are a line
+pub record LineNumbered (e : Closeness) (h : List ℕ) (modes : List ℕ) (n : ℕ) : Type 0 where
+  pub saturations : BinsNumbered e saturation h modes n
+  pub intensities : BinsNumbered e intensity h modes n

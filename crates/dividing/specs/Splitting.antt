@@ -17,7 +17,7 @@ use Rattle.palette.specs.Levels.{Level, hue, saturation, intensity, binCount, b
 use Rattle.palette.specs.Cards.{Branch, pixelsOf}
 use Rattle.palette.specs.Sound.{pixelAt}
 use Rattle.dividing.specs.Sorted.{tally, marked, sortedBy}
-pub use Rattle.dividing.specs.Sorted.{modeBase}
+pub use Rattle.dividing.specs.Sorted.{modeBase, codeCount}
 
 abbrev pub levelAt : ℕ → Level
 levelAt zero = intensity

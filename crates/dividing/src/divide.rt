@@ -9,7 +9,7 @@ ghost use lib.ListN.{length};
 ghost use Rattle.verdict.specs.Test.{mostCloseness};
 ghost use Rattle.palette.specs.Cards.{pixelsOf};
 ghost use Rattle.palette.specs.Sound.{mostPixels};
-ghost use Rattle.dividing.specs.Splitting.{modeBase, AllIn, AllColours, resting, Split};
+ghost use Rattle.dividing.specs.Splitting.{modeBase, codeCount, AllIn, AllColours, resting, Split};
 ghost use Rattle.dividing.specs.Kinds.{leavesSome, PixelsDivided};
 
 // Splits a range, if it has pixels.
@@ -22,7 +22,7 @@ fn split_some(
     codes: &mut [u32],
     sizes: &mut [u32],
 ) -> usize
-    requires { ⌜ (node .left ≤ 3) × (node .closeness ≤ mostCloseness) × (node .found + modeBase ^ node .left ≤ 2 ^ 32) × ((node .code + 1) * modeBase ^ node .left ≤ 2 ^ 20) ⌝ }
+    requires { ⌜ (node .left ≤ 3) × (node .closeness ≤ mostCloseness) × (node .found + modeBase ^ node .left ≤ 2 ^ 32) × ((node .code + 1) * modeBase ^ node .left ≤ codeCount) ⌝ }
     requires { ⌜ (length (now order) ≡ length (now other)) × (length (now order) ≤ length (now keys)) × (length (now order) ≤ mostPixels) × AllIn (now order) (now pixels)
         × (node .left ≡ 3 → AllColours (now order) (now pixels)) ⌝ }
     ensures { λ r. ⌜ Split (leavesSome (node .closeness) (pixelsOf (now (pixels .entry))) (node .left) (node .code) (now (order .entry))) (node .found)

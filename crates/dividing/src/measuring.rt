@@ -1,5 +1,8 @@
 // The bins of a range of pixels at one level, each kept and counted in the same pass.
+use pixel::HUES;
+use pixel::INTENSITIES;
 use pixel::Pixel;
+use pixel::SATURATIONS;
 use pixel::hue_of;
 use pixel::intensity_bin;
 use pixel::roots;
@@ -25,11 +28,11 @@ pub fn pixel_at(pixels: &[u8], i: usize) -> Pixel
     }
 }
 
-pub fn hue_histogram(pixels: &[u8], order: &[u16], keys: &mut [u8]) -> [u32; 60]
+pub fn hue_histogram(pixels: &[u8], order: &[u16], keys: &mut [u8]) -> [u32; HUES]
     requires { ⌜ (length (now order) ≡ length (now keys)) × (length (now keys) ≤ mostPixels) × AllIn (now order) (now pixels) × AllColours (now order) (now pixels) ⌝ }
     ensures { λ r. ⌜ BinsCounted (pixelsOf (now (pixels .entry))) hue (now (order .entry)) (now (keys .exit)) r ⌝ }
 {
-    let mut h = [0u32; 60];
+    let mut h = [0u32; HUES];
     let mut i = 0;
     while i < order.len() {
         let bin = hue_of(turned_back(pixel_at(pixels, order[i] as usize)));
@@ -41,12 +44,12 @@ pub fn hue_histogram(pixels: &[u8], order: &[u16], keys: &mut [u8]) -> [u32; 60]
     h
 }
 
-pub fn saturation_histogram(pixels: &[u8], order: &[u16], keys: &mut [u8]) -> [u32; 42]
+pub fn saturation_histogram(pixels: &[u8], order: &[u16], keys: &mut [u8]) -> [u32; SATURATIONS]
     requires { ⌜ (length (now order) ≡ length (now keys)) × (length (now keys) ≤ mostPixels) × AllIn (now order) (now pixels) ⌝ }
     ensures { λ r. ⌜ BinsCounted (pixelsOf (now (pixels .entry))) saturation (now (order .entry)) (now (keys .exit)) r ⌝ }
 {
     let roots = roots();
-    let mut h = [0u32; 42];
+    let mut h = [0u32; SATURATIONS];
     let mut i = 0;
     while i < order.len() {
         let bin = saturation_by(&roots, pixel_at(pixels, order[i] as usize));
@@ -58,11 +61,11 @@ pub fn saturation_histogram(pixels: &[u8], order: &[u16], keys: &mut [u8]) -> [u
     h
 }
 
-pub fn intensity_histogram(pixels: &[u8], order: &[u16], keys: &mut [u8]) -> [u32; 52]
+pub fn intensity_histogram(pixels: &[u8], order: &[u16], keys: &mut [u8]) -> [u32; INTENSITIES]
     requires { ⌜ (length (now order) ≡ length (now keys)) × (length (now keys) ≤ mostPixels) × AllIn (now order) (now pixels) ⌝ }
     ensures { λ r. ⌜ BinsCounted (pixelsOf (now (pixels .entry))) intensity (now (order .entry)) (now (keys .exit)) r ⌝ }
 {
-    let mut h = [0u32; 52];
+    let mut h = [0u32; INTENSITIES];
     let mut i = 0;
     while i < order.len() {
         let bin = intensity_bin(pixel_at(pixels, order[i] as usize));

@@ -1,4 +1,7 @@
 // The modes that the bins of a histogram lie in.
+use pixel::HUES;
+use pixel::INTENSITIES;
+use pixel::SATURATIONS;
 use segmentation::line_separators;
 use segmentation::open_ring;
 ghost use mathlib.Core.Path.{_≡_};
@@ -6,9 +9,12 @@ ghost use Prim.Native.Nat.{_≤_, _<_, _+_, _%_};
 ghost use lib.ListN.{length};
 ghost use Rattle.lists.specs.Lists.{total};
 ghost use Rattle.verdict.specs.Test.{mostCloseness};
-ghost use Rattle.palette.specs.Levels.{hue, saturation, intensity};
+ghost use Rattle.palette.specs.Levels.{hue, saturation, intensity, binCount};
 ghost use Rattle.palette.specs.Sound.{mostPixels};
-ghost use Rattle.dividing.specs.Numbering.{RisesFromZero, NotPassed, Begun, PlacesNumbered, BinsNumbered};
+ghost use Rattle.dividing.specs.Numbering.{RisesFromZero, NotPassed, Begun, PlacesNumbered, BinsNumbered, LineNumbered};
+
+// The ring of the hues opened into a line has its lowest bin at both ends.
+const OPENED: usize = HUES + 1;
 
 // The mode at place i: the one at the place before, or the next where that begins here.
 fn mode_at(separators: &[u32], n: usize, m: usize, i: usize) -> usize
@@ -42,36 +48,36 @@ fn number_bins(separators: &[u32], n: usize, opening: usize, modes: &mut [u8])
 
 // The modes of a line of bins: how many there are, and each bin's.
 fn line_modes(h: &[u32], closeness: u32, modes: &mut [u8]) -> usize
-    requires { ⌜ (2 ≤ length (now h)) × (length (now h) ≤ 60) × (total (now h) ≤ mostPixels) × (closeness ≤ mostCloseness) × (length (now modes) ≡ length (now h)) ⌝ }
-    ensures { λ r. ⌜ BinsNumbered closeness intensity (now (h .entry)) (now (modes .exit)) r ⌝ }
+    requires { ⌜ (2 ≤ length (now h)) × (length (now h) ≤ binCount hue) × (total (now h) ≤ mostPixels) × (closeness ≤ mostCloseness) × (length (now modes) ≡ length (now h)) ⌝ }
+    ensures { λ r. ⌜ LineNumbered closeness (now (h .entry)) (now (modes .exit)) r ⌝ }
 {
-    let mut separators = [0u32; 60];
+    let mut separators = [0u32; HUES];
     let n = line_separators(h, closeness, &mut separators) as usize - 1;
     number_bins(&separators, n, 0, modes);
     n
 }
 
-pub fn intensity_modes(h: [u32; 52], closeness: u32, modes: &mut [u8]) -> usize
-    requires { ⌜ (total h ≤ mostPixels) × (closeness ≤ mostCloseness) × (length (now modes) ≡ 52) ⌝ }
+pub fn intensity_modes(h: [u32; INTENSITIES], closeness: u32, modes: &mut [u8]) -> usize
+    requires { ⌜ (total h ≤ mostPixels) × (closeness ≤ mostCloseness) × (length (now modes) ≡ binCount intensity) ⌝ }
     ensures { λ r. ⌜ BinsNumbered closeness intensity h (now (modes .exit)) r ⌝ }
 {
     line_modes(&h, closeness, modes)
 }
 
-pub fn saturation_modes(h: [u32; 42], closeness: u32, modes: &mut [u8]) -> usize
-    requires { ⌜ (total h ≤ mostPixels) × (closeness ≤ mostCloseness) × (length (now modes) ≡ 42) ⌝ }
+pub fn saturation_modes(h: [u32; SATURATIONS], closeness: u32, modes: &mut [u8]) -> usize
+    requires { ⌜ (total h ≤ mostPixels) × (closeness ≤ mostCloseness) × (length (now modes) ≡ binCount saturation) ⌝ }
     ensures { λ r. ⌜ BinsNumbered closeness saturation h (now (modes .exit)) r ⌝ }
 {
     line_modes(&h, closeness, modes)
 }
 
-// The hue bins are a ring: its opened line has the lowest bin at both ends.
-pub fn hue_modes(h: [u32; 60], closeness: u32, modes: &mut [u8]) -> usize
-    requires { ⌜ (total h ≤ mostPixels) × (closeness ≤ mostCloseness) × (length (now modes) ≡ 60) ⌝ }
+// The hue bins are a ring, which is opened into a line.
+pub fn hue_modes(h: [u32; HUES], closeness: u32, modes: &mut [u8]) -> usize
+    requires { ⌜ (total h ≤ mostPixels) × (closeness ≤ mostCloseness) × (length (now modes) ≡ binCount hue) ⌝ }
     ensures { λ r. ⌜ BinsNumbered closeness hue h (now (modes .exit)) r ⌝ }
 {
-    let mut opened = [0u32; 61];
-    let mut separators = [0u32; 61];
+    let mut opened = [0u32; OPENED];
+    let mut separators = [0u32; OPENED];
     let opening = open_ring(&h, &mut opened);
     let n = line_separators(&opened, closeness, &mut separators) as usize - 1;
     number_bins(&separators, n, opening, modes);

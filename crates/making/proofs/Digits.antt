@@ -13,14 +13,15 @@ use Rattle.palette.specs.Levels.{Level, hue, saturation, intensity, greyLevels,
 use Rattle.palette.specs.Cards.{Branch, allGreys, allColours, members, modesFound, child, divide, divideSome, branches}
 use Rattle.palette.proofs.FewModes.{found-few}
 use Rattle.dividing.specs.Splitting.{codeOf}
+use Rattle.dividing.specs.Sorted.{codeCount, modeBase}
 
 pub record Digits (b : Branch) : Type 0 where
   pub kind : b .kind < 2
-  pub hue : b .hue < 64
-  pub saturation : b .saturation < 64
-  pub intensity : b .intensity < 64
+  pub hue : b .hue < modeBase
+  pub saturation : b .saturation < modeBase
+  pub intensity : b .intensity < modeBase
 
-pub code-below : (b : Branch) → Digits b → codeOf b < 2 ^ 19
+pub code-below : (b : Branch) → Digits b → codeOf b < codeCount
 code-below b d = omega (arith, d .kind, d .hue, d .saturation, d .intensity)
 
 module _ (e : Closeness) (ps : List Pixel) where

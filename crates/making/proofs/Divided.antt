@@ -25,7 +25,7 @@ use Rattle.palette.proofs.OneBranch.{branches-filled}
 use Rattle.palette.proofs.OneEntry.{branchAt, entries-length}
 use Rattle.palette.proofs.Triples.{pixels-bytes, pixels-length}
 use Rattle.dividing.specs.Splitting.{numbersOf, codeOf, leafOf}
-use Rattle.dividing.specs.Sorted.{AllBelow}
+use Rattle.dividing.specs.Sorted.{modeBase, AllBelow}
 use Rattle.dividing.specs.Kinds.{PixelsDivided}
 use Rattle.dividing.proofs.Bridge.{members-numbered}
 use Rattle.dividing.proofs.Halves.{numbers-in}
@@ -47,10 +47,10 @@ mean-by f ps b =
 entry-by : (ps : List Pixel) (b : Branch) → Digits b → entryBy (codeOf b) (length (numbersOf ps b)) (sumsOf ps (numbersOf ps b)) ≡ entryOf ps b
 unfolding entryBy entryOf
 entry-by ps b d =
-    let i : codeOf b / 64 / 64 / 64 ≡ b .kind = omega (arith, d .hue, d .saturation, d .intensity) in
-    let h : codeOf b / 64 / 64 % 64 ≡ b .hue = omega (arith, d .hue, d .saturation, d .intensity) in
-    let s : codeOf b / 64 % 64 ≡ b .saturation = omega (arith, d .hue, d .saturation, d .intensity) in
-    let t : codeOf b % 64 ≡ b .intensity = omega (arith, d .hue, d .saturation, d .intensity) in
+    let i : codeOf b / modeBase / modeBase / modeBase ≡ b .kind = omega (arith, d .hue, d .saturation, d .intensity) in
+    let h : codeOf b / modeBase / modeBase % modeBase ≡ b .hue = omega (arith, d .hue, d .saturation, d .intensity) in
+    let s : codeOf b / modeBase % modeBase ≡ b .saturation = omega (arith, d .hue, d .saturation, d .intensity) in
+    let t : codeOf b % modeBase ≡ b .intensity = omega (arith, d .hue, d .saturation, d .intensity) in
     let many : length (numbersOf ps b) ≡ length (members ps b) = sym (length-map (numbersOf ps b) (pixelAt ps)) ∙ ap length (members-numbered ps b) in
     rw (i, h, s, t, mean-by (λ p. p .red) ps b, mean-by (λ p. p .green) ps b, mean-by (λ p. p .blue) ps b, many) refl
 

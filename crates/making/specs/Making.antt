@@ -11,7 +11,7 @@ use Rattle.verdict.specs.Test.{Closeness}
 use Rattle.palette.specs.declared.Entry.{Entry}
 use Rattle.palette.specs.Cards.{entries, labels, mostEntries, noEntry}
 use Rattle.palette.specs.Sound.{pixelAt, mostPixels}
-use Rattle.dividing.specs.Sorted.{modeBase}
+use Rattle.dividing.specs.Sorted.{codeCount, modeBase}
 use Rattle.making.specs.declared.CardEntries.{CardEntries}
 use Rattle.making.specs.declared.Sums.{Sums}
 
@@ -68,7 +68,7 @@ pub record FiguresLaid (bytes xs codes sizes : List ℕ) (n : ℕ) : Type 0 wher
   pub ranges : RangesLaid xs sizes n (length bytes / 3)
   pub many : total (take n sizes) ≤ mostPixels
   pub coded : n ≤ length codes
-  pub small : (k : ℕ) → k < n → getD codes k 0 < 2 ^ 19
+  pub small : (k : ℕ) → k < n → getD codes k 0 < codeCount
   pub filled : (k : ℕ) → k < n → 0 < getD sizes k 0
 
 -- how many of n entries a card holds: none where they are too many

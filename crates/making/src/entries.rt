@@ -11,7 +11,7 @@ ghost use lib.ListN.{length};
 ghost use Rattle.lists.specs.Lists.{padded};
 ghost use Rattle.palette.specs.Cards.{pixelsOf, mostEntries, noEntry};
 ghost use Rattle.palette.specs.Sound.{mostPixels};
-ghost use Rattle.dividing.specs.Sorted.{AllBelow};
+ghost use Rattle.dividing.specs.Sorted.{codeCount, AllBelow};
 ghost use Rattle.making.specs.Making.{sumsOf, labelled, meanBy, entryBy, entriesBy, labelsBy, RangesLaid, FiguresLaid};
 
 fn plus(sum: u32, level: u8) -> u32
@@ -49,7 +49,7 @@ fn mean(total: u32, count: u32) -> u8
 }
 
 fn entry(code: u32, count: u32, sums: Sums) -> Entry
-    requires { ⌜ (code < 2 ^ 19) × (0 < count) × (count ≤ mostPixels) × (sums .red ≤ 255 * count) × (sums .green ≤ 255 * count) × (sums .blue ≤ 255 * count) ⌝ }
+    requires { ⌜ (code < codeCount) × (0 < count) × (count ≤ mostPixels) × (sums .red ≤ 255 * count) × (sums .green ≤ 255 * count) × (sums .blue ≤ 255 * count) ⌝ }
     ensures { λ r. ⌜ r ≡ entryBy code count sums ⌝ }
 {
     Entry {

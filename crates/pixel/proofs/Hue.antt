@@ -11,7 +11,7 @@ use borrow.Author.Tests.{leb-true, le-leb}
 use Rattle.lists.specs.Lists.{countIf}
 use Rattle.lists.proofs.Cases.{by-cond}
 use Rattle.lists.proofs.Counting.{count-le}
-use Rattle.pixel.specs.Colour.{Point, tangents, tangentsPassed, quarter, turnedOf, hueOf}
+use Rattle.pixel.specs.Colour.{Point, tangents, tangentsPassed, quarter, turnedOf, hueAt, hueOf}
 
 cond-le : (t : Bool) (a b n : ℕ) → a ≤ n → b ≤ n → cond t a b ≤ n
 cond-le true a b n h j = h
@@ -112,5 +112,5 @@ unfolding turnedOf
 turned-quarter-le c = quarter-le c
 
 pub hue-le : (c : Point) → hueOf c ≤ 59
-unfolding hueOf
+unfolding hueOf hueAt
 hue-le c = omega (arith, turned-quarter-le c, tangents-passed-le (turnedOf c .a) (turnedOf c .b))

@@ -7,14 +7,14 @@ use native.Mathlib.Nat.{mul-le-mul}
 use lib.ListN.{length, getD, set, length-set}
 use lib.Seq.{getD-set-same, getD-set-other}
 use Rattle.lists.proofs.Cases.{by-order}
-use Rattle.pixel.specs.Root.{RootWithin}
+use Rattle.pixel.specs.Root.{rootCount, RootWithin}
 
 -- the first x places have their roots
 pub record Rooted (roots : List ℕ) (x : ℕ) : Type 0 where
-  pub long : length roots ≡ 1764
+  pub long : length roots ≡ rootCount
   pub each : (y : ℕ) → y < x → RootWithin 1 y (getD roots y 0)
 
-pub rooted-more : (roots : List ℕ) (x j : ℕ) → Rooted roots x → x < 1764 → RootWithin 1 x j → Rooted (set roots x j) (x + 1)
+pub rooted-more : (roots : List ℕ) (x j : ℕ) → Rooted roots x → x < rootCount → RootWithin 1 x j → Rooted (set roots x j) (x + 1)
 rooted-more roots x j s l w = record {
   long = simp length-set (s .long);
   each = λ y k.
@@ -23,5 +23,5 @@ rooted-more roots x j s l w = record {
 }
 
 -- 42 runs are all of the table
-pub run-le : (j : ℕ) → j < 42 → (j + 1) * (j + 1) ≤ 1764
+pub run-le : (j : ℕ) → j < 42 → (j + 1) * (j + 1) ≤ rootCount
 run-le j l = let k : j + 1 ≤ 42 = omega arith in omega (arith, mul-le-mul k k)

@@ -1,7 +1,7 @@
 -- The measures of a pixel: rules M1 to M9. Assumes nothing.
 --   chromaSquared                            Q; isGrey: by Q
 --   intensityBin, saturationBin, hueBin      the three measures; measuresOf: all of them
---   huePoint, quarter, turnedBack, hueOf     (u, v), its quarter, (a, b), and the bin of a coloured pixel
+--   huePoint, quarter, turnedBack, hueOf     (u, v), its quarter, (a, b), and the bin of a coloured pixel; hueAt: the bin once it is turned back
 --   saturationOf, tangentsPassed, turnedOf   the steps on the way: from Q; from (a, b); quarter, a and b in one
 use Prim.Native.Nat.{ℕ, zero, suc, _+_, _*_, _-_, _/_}
 use mathlib.Core.Bool.{Bool, cond, _&&_}
@@ -74,8 +74,11 @@ unfoldable pub tangentsPassed : ℕ → ℕ → ℕ
 tangentsPassed a b = countIf (λ t. leb (t * a) (b * 1000000)) tangents
 
 -- M8: fifteen bins in a quarter
+unfoldable pub hueAt : Turned → ℕ
+hueAt t = 15 * t .quarter + tangentsPassed (t .a) (t .b)
+
 unfoldable pub hueOf : Point → ℕ
-hueOf c = let t = turnedOf c in 15 * t .quarter + tangentsPassed (t .a) (t .b)
+hueOf c = hueAt (turnedOf c)
 
 -- M9: a grey has no hue, and gets bin 0
 unfoldable pub hueBin : Pixel → ℕ

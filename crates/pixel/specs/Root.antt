@@ -13,10 +13,14 @@ pub record RootWithin (w x j : ℕ) : Type 0 where
   pub low : j * j ≤ x
   pub high : x < (j + w) * (j + w)
 
+-- the roots of the numbers below it are the saturation bins
+abbrev pub rootCount : ℕ
+rootCount = 42 * 42
+
 -- at each place its own root
 pub record AllRoots (roots : List ℕ) : Type 0 where
-  pub long : length roots ≡ 1764
-  pub each : (x : ℕ) → x < 1764 → RootWithin 1 x (getD roots x 0)
+  pub long : length roots ≡ rootCount
+  pub each : (x : ℕ) → x < rootCount → RootWithin 1 x (getD roots x 0)
 
 unfoldable pub lineOf : ℕ → Line
 lineOf zero = record { start = 900; slope = 146 }

@@ -15,9 +15,20 @@ ghost use Rattle.pixel.specs.Colour.{
   tangentsPassed,
   huePoint,
   turnedOf,
+  hueAt,
   hueBin,
   measuresOf,
 };
+
+// How many bins each measure has.
+pub const HUES: usize = 60;
+
+pub const SATURATIONS: usize = 42;
+
+pub const INTENSITIES: usize = 52;
+
+// The roots of these numbers are the saturation bins.
+pub const ROOTS: usize = SATURATIONS * SATURATIONS;
 
 pub struct Pixel {
     pub red: u8,
@@ -147,14 +158,14 @@ pub fn saturation_bin(p: Pixel) -> u8
     saturation_of(chroma_squared(p))
 }
 
-// The square roots of 0 to 1763, rounded down: where many saturations are taken, a root is read and not computed.
-pub fn roots() -> [u8; 1764]
+// The square roots of the numbers from 0 on, rounded down: where many saturations are taken, a root is read and not computed.
+pub fn roots() -> [u8; ROOTS]
     ensures { λ r. ⌜ AllRoots r ⌝ }
 {
-    let mut roots = [0u8; 1764];
+    let mut roots = [0u8; ROOTS];
     let mut x = 0;
     let mut j = 0;
-    while j < 42 {
+    while j < SATURATIONS {
         let end = (j + 1) * (j + 1);
         while x < end {
             roots[x] = j as u8;
@@ -258,7 +269,7 @@ pub fn turned_back(p: Pixel) -> Turned
 // The hue bin of a coloured pixel. The turn is a call of its own: two small functions are put into a caller's loop, where one large one would be called.
 pub fn hue_of(t: Turned) -> u8
     requires { ⌜ t .quarter ≤ 3 ⌝ }
-    ensures { λ r. ⌜ r ≡ 15 * t .quarter + tangentsPassed (t .a) (t .b) ⌝ }
+    ensures { λ r. ⌜ r ≡ hueAt t ⌝ }
 {
     (15 * t.quarter + tangents_passed(t.a, t.b)) as u8
 }

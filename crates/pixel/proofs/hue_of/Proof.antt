@@ -1,5 +1,6 @@
 -- `pixel::hue_of` meets its contract. Assumes nothing.
 use native.Mathlib.Omega.{arith}
+use Rattle.pixel.specs.Colour.{hueAt}
 use Rattle.pixel.proofs.Hue.{tangents-passed-le}
 use borrow.Author.Needs.{needs}
 use Rattle.pixel.proofs.hue_of.Statement.{statement}
@@ -18,6 +19,7 @@ cast-result : tie.Need-cast-result
 cast-result c = let t = c .before .before .args .t in omega (arith, c .tangents-passed .ensures, tangents-passed-le (t .a) (t .b))
 
 returns : tie.Need-returns
+unfolding hueAt
 returns c = rw (c .tangents-passed .ensures)
 
 pub hue-of-spec : {M : Type 1} → statement M

@@ -3,6 +3,7 @@ use Prim.Native.Nat.{ℕ, _+_, _*_, _-_, _≤_, _<_}
 use mathlib.Core.Path.{_≡_, refl, ap, _∙_}
 use native.Mathlib.Omega.{arith}
 use borrow.Author.Needs.{needs}
+use Rattle.pixel.specs.Root.{rootCount}
 use Rattle.pixel.proofs.Rooted.{Rooted, rooted-more, run-le}
 use Rattle.pixel.proofs.roots.Statement.{statement}
 use Rattle.pixel.proofs.roots.Tie as tie
@@ -66,7 +67,7 @@ returns : tie.Need-returns Inv-loop2 μ-loop2 Inv-loop μ-loop
 returns c =
     let l = c .before .loop in
     let last : l .j ≡ 42 = omega arith in
-    let whole : l .x ≡ 1764 = l .inv .1 ∙ ap (λ (j : ℕ). j * j) last in
+    let whole : l .x ≡ rootCount = l .inv .1 ∙ ap (λ (j : ℕ). j * j) last in
     record { long = l .inv .2 .long; each = λ x k. l .inv .2 .each x (omega (arith, whole)) }
 
 pub roots-spec : {M : Type 1} → statement M

@@ -6,7 +6,7 @@ use mathlib.Core.Path.{_≡_}
 use lib.ListN.{length, getD}
 use Rattle.pixel.specs.Colour.{huePoint, hueBin}
 use Rattle.pixel.proofs.Hue.{turned-quarter-le}
-use Rattle.palette.specs.Levels.{hue}
+use Rattle.palette.specs.Levels.{hue, binCount}
 use Rattle.palette.specs.Sound.{mostPixels}
 use Rattle.dividing.proofs.Measured.{Passed, passed-none, passed-below, passed-few, passed-more, passed-all, coloured-hue}
 use Rattle.dividing.proofs.measuring.hue_histogram.Statement.{statement}
@@ -33,7 +33,7 @@ hue-is c =
     coloured-hue (c .before .before .pixel-at .result) _ (c .before .turned-back .result) (c .hue-of .result) (c .before .before .pixel-at .ensures)
     (entry (turn c) .pre .3 (turn c .loop .i) (c .before .before .before .before .loop-test .taken)) (c .before .turned-back .ensures) (c .hue-of .ensures)
 
-below : (c : tie.After-hue-of Inv-loop μ-loop) → c .hue-of .result < 60
+below : (c : tie.After-hue-of Inv-loop μ-loop) → c .hue-of .result < binCount hue
 below c =
     let a = entry (turn c) .args in
     let l = turn c .loop in

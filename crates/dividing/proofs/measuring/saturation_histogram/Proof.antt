@@ -3,7 +3,7 @@ use Prim.Native.Nat.{ℕ, _-_, _≤_, _<_}
 use native.Mathlib.Omega.{arith}
 use borrow.Author.Needs.{needs}
 use lib.ListN.{length, getD}
-use Rattle.palette.specs.Levels.{saturation}
+use Rattle.palette.specs.Levels.{saturation, binCount}
 use Rattle.palette.specs.Sound.{mostPixels}
 use Rattle.dividing.proofs.Measured.{Passed, passed-none, passed-below, passed-few, passed-more, passed-all}
 use Rattle.dividing.proofs.measuring.saturation_histogram.Statement.{statement}
@@ -25,7 +25,7 @@ entry c = c .before .before .before .before .before
 byte : (c : tie.At-loop Inv-loop μ-loop) (j : ℕ) → getD (entry c .args .pixels .now) j 0 < 256
 byte c j = let known = c .before .before .before .before .shared-slice-known .given j in omega arith
 
-below : (c : tie.After-saturation-by Inv-loop μ-loop) → c .saturation-by .result < 42
+below : (c : tie.After-saturation-by Inv-loop μ-loop) → c .saturation-by .result < binCount saturation
 below c =
     let a = entry (turn c) .args in
     let l = turn c .loop in

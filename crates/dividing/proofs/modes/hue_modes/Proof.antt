@@ -9,6 +9,7 @@ use Rattle.segmentation.specs.Ring.{opened, ringModes}
 use Rattle.segmentation.proofs.Finishing.{modes-cut, separators-length}
 use Rattle.segmentation.proofs.RingPlaces.{ring-length, ring-small, opening-in}
 use Rattle.palette.specs.Sound.{mostPixels}
+use Rattle.palette.specs.Levels.{hue, binCount}
 use Rattle.dividing.specs.Numbering.{RisesFromZero}
 use Rattle.palette.proofs.FewModes.{line-few}
 use Rattle.dividing.proofs.Numbered.{held-rise, ring-numbered}
@@ -25,9 +26,9 @@ line-separators-requires c κs =
     let a = c .before .before .before .before .before .before .before .args in
     let p = c .before .before .before .before .before .before .before .pre in
     let h = a .t1 in
-    let long : length h ≡ 60 = search needs in
+    let long : length h ≡ binCount hue = search needs in
     let o : c .before .before .before .open-ring .last .1 .0 ≡ opened h =
-    c .before .before .before .open-ring .ensures .1 ∙ over-all (opened h) (replicate 61 0) (ring-length h (omega arith) ∙ ap suc long) in
+    c .before .before .before .open-ring .ensures .1 ∙ over-all (opened h) (replicate (suc (binCount hue)) 0) (ring-length h (omega arith) ∙ ap suc long) in
     rw o (ring-small h (omega arith) (omega arith) (omega arith), (omega (arith, ring-length h (omega arith)), omega arith, omega (arith, ring-length h (omega arith))))
 
 cast-n : tie.Need-cast-n
@@ -47,8 +48,8 @@ number-bins-requires c κs =
     let p = c .before .before .before .before .before .before .before .before .before .before .before .pre in
     let h = a .t1 in
     let e = a .closeness in
-    let bins : length h ≡ 60 = search needs in
-    let same : o .last .1 .0 ≡ opened h = o .ensures .1 ∙ over-all (opened h) (replicate 61 0) (ring-length h (omega arith) ∙ ap suc bins) in
+    let bins : length h ≡ binCount hue = search needs in
+    let same : o .last .1 .0 ≡ opened h = o .ensures .1 ∙ over-all (opened h) (replicate (suc (binCount hue)) 0) (ring-length h (omega arith) ∙ ap suc bins) in
     let two : 2 ≤ length (opened h) = omega (arith, ring-length h (omega arith)) in
     let n : s .result - 1 ≡ length (lineModes e (opened h)) = omega (arith, rw same at (s .ensures .0), separators-length e (opened h)) in
     let half = line-few e (opened h) two in
@@ -66,8 +67,8 @@ returns c =
     let h = a .t1 in
     let e = a .closeness in
     let next = q .last .1 .1 .1 .0 in
-    let bins : length h ≡ 60 = search needs in
-    let same : o .last .1 .0 ≡ opened h = o .ensures .1 ∙ over-all (opened h) (replicate 61 0) (ring-length h (omega arith) ∙ ap suc bins) in
+    let bins : length h ≡ binCount hue = search needs in
+    let same : o .last .1 .0 ≡ opened h = o .ensures .1 ∙ over-all (opened h) (replicate (suc (binCount hue)) 0) (ring-length h (omega arith) ∙ ap suc bins) in
     let n : s .result - 1 ≡ length (ringModes e h) = omega (arith, rw same at (s .ensures .0), separators-length e (opened h)) in
     let long : length next ≡ length h = omega (arith, q .kept .1 .1 .1 .0) in
     rw n (ring-numbered e h (omega arith) _ next long (rw (s .ensures .1, same, n, o .ensures .0) at (q .ensures)))
