@@ -6,7 +6,7 @@ use palette::Entry;
 use palette::MOST_ENTRIES;
 use palette::no_entry;
 ghost use mathlib.Core.Path.{_≡_};
-ghost use Prim.Native.Nat.{_≤_, _<_, _*_, _+_, _/_, _^_};
+ghost use Prim.Native.Nat.{_≤_, _<_, _*_, _+_, _/_};
 ghost use lib.ListN.{length};
 ghost use Rattle.lists.specs.Lists.{padded};
 ghost use Rattle.palette.specs.Cards.{pixelsOf, mostEntries, noEntry};

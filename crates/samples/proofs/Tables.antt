@@ -1,7 +1,7 @@
 -- Every row of the two tables holds, computed from the definitions. Assumes nothing.
 use mathlib.Core.Path.{refl}
 use Rattle.lists.specs.Lists.{part, numbers, filter, countIf, firstThat, largestThat, firstLowest, largest}
-use Rattle.pixel.specs.Colour.{intensityBin, chromaSquared, saturationOf, saturationBin, isGrey, tangents, huePoint, quarter, turnedBack, turnedOf, tangentsPassed, hueOf, hueBin, measuresOf}
+use Rattle.pixel.specs.Colour.{intensityBin, chromaSquared, saturationOf, saturationBin, isGrey, tangents, huePoint, quarter, turnedBack, turnedOf, tangentsPassed, hueAt, hueOf, hueBin, measuresOf}
 use Rattle.logarithm.specs.Log.{roundCount, unitsPerBit, floorLog, rounds, lg}
 use Rattle.pooling.specs.Blocks.{push, pushAll, blocks, fitted, placesFrom}
 use Rattle.verdict.specs.Test.{placeOf, massWithin, massAcross, fittedMass, weight, partWeight, bar, largestWeight, cost, rejected, verdictOf}
@@ -12,9 +12,9 @@ use Rattle.samples.specs.Starred.{StarredHold}
 use Rattle.samples.specs.Guards.{GuardsHold}
 
 pub starred-hold : StarredHold
-unfolding part numbers filter countIf firstThat largestThat firstLowest largest intensityBin chromaSquared saturationOf saturationBin isGrey tangents huePoint quarter turnedBack turnedOf tangentsPassed hueOf hueBin measuresOf roundCount unitsPerBit floorLog rounds lg push pushAll blocks fitted placesFrom placeOf massWithin massAcross fittedMass weight partWeight bar largestWeight cost risesAbove isValley firstSeparators firstHighest segmentsFrom firstSegments riseOf fallOf joined join riseCost fallCost joinOf cheapest nextJoin joinAll lineModes lineSeparators
+unfolding part numbers filter countIf firstThat largestThat firstLowest largest intensityBin chromaSquared saturationOf saturationBin isGrey tangents huePoint quarter turnedBack turnedOf tangentsPassed hueAt hueOf hueBin measuresOf roundCount unitsPerBit floorLog rounds lg push pushAll blocks fitted placesFrom placeOf massWithin massAcross fittedMass weight partWeight bar largestWeight cost risesAbove isValley firstSeparators firstHighest segmentsFrom firstSegments riseOf fallOf joined join riseCost fallCost joinOf cheapest nextJoin joinAll lineModes lineSeparators
 starred-hold = refl
 
 pub guards-hold : GuardsHold
-unfolding part numbers filter countIf firstThat largestThat firstLowest largest intensityBin chromaSquared saturationOf saturationBin isGrey tangents huePoint quarter turnedBack turnedOf tangentsPassed hueOf hueBin measuresOf roundCount unitsPerBit floorLog rounds lg push pushAll blocks fitted placesFrom placeOf massWithin massAcross fittedMass weight partWeight bar largestWeight cost rejected verdictOf risesAbove isValley firstSeparators firstHighest segmentsFrom firstSegments riseOf fallOf joined join riseCost fallCost joinOf cheapest nextJoin joinAll lineModes lineSeparators inMode opening opened ringBin linePlace ringModes ringSeparators inRingMode
+unfolding part numbers filter countIf firstThat largestThat firstLowest largest intensityBin chromaSquared saturationOf saturationBin isGrey tangents huePoint quarter turnedBack turnedOf tangentsPassed hueAt hueOf hueBin measuresOf roundCount unitsPerBit floorLog rounds lg push pushAll blocks fitted placesFrom placeOf massWithin massAcross fittedMass weight partWeight bar largestWeight cost rejected verdictOf risesAbove isValley firstSeparators firstHighest segmentsFrom firstSegments riseOf fallOf joined join riseCost fallCost joinOf cheapest nextJoin joinAll lineModes lineSeparators inMode opening opened ringBin linePlace ringModes ringSeparators inRingMode
 guards-hold = refl
