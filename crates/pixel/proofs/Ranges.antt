@@ -28,7 +28,8 @@ hue-bin-le p = by-cond (λ (n : ℕ). n ≤ 59) (isGrey p) 0 (hueOf (huePoint p)
 
 pub measures-in-range : AlwaysInRange
 unfolding measuresOf
-measures-in-range p h = record { intensity = intensity-le p h; saturation = saturation-le p; hue = hue-bin-le p }
+measures-in-range p h =
+    record { intensity = omega (arith, intensity-le p h); saturation = omega (arith, saturation-le p); hue = omega (arith, hue-bin-le p) }
 
 -- ---- Q and the saturation bin
 pub chroma-whole : ChromaWhole

@@ -4,16 +4,13 @@ use mathlib.Core.Path.{_≡_}
 use mathlib.Core.List.{List}
 use native.Mathlib.Omega.{arith}
 use native.Mathlib.Nat.{mul-le-mul}
-use lib.ListN.{length, getD, set, length-set}
+use lib.ListN.{set, length-set}
 use lib.Seq.{getD-set-same, getD-set-other}
 use Rattle.lists.proofs.Cases.{by-order}
-use Rattle.pixel.specs.Root.{rootCount, RootWithin}
+use Rattle.pixel.specs.Colour.{saturationCount}
+use Rattle.pixel.specs.Root.{rootCount, RootWithin, Rooted}
 
--- the first x places have their roots
-pub record Rooted (roots : List ℕ) (x : ℕ) : Type 0 where
-  pub long : length roots ≡ rootCount
-  pub each : (y : ℕ) → y < x → RootWithin 1 y (getD roots y 0)
-
+-- one place more
 pub rooted-more : (roots : List ℕ) (x j : ℕ) → Rooted roots x → x < rootCount → RootWithin 1 x j → Rooted (set roots x j) (x + 1)
 rooted-more roots x j s l w = record {
   long = simp length-set (s .long);
@@ -22,6 +19,6 @@ rooted-more roots x j s l w = record {
       (λ u. let z : y ≡ x = omega arith in rw (z, getD-set-same roots x j 0 (omega (arith, s .long))) w);
 }
 
--- 42 runs are all of the table
-pub run-le : (j : ℕ) → j < 42 → (j + 1) * (j + 1) ≤ rootCount
-run-le j l = let k : j + 1 ≤ 42 = omega arith in omega (arith, mul-le-mul k k)
+-- the runs of all saturation bins are all of the table
+pub run-le : (j : ℕ) → j < saturationCount → (j + 1) * (j + 1) ≤ rootCount
+run-le j l = let k : j + 1 ≤ saturationCount = omega arith in omega (arith, mul-le-mul k k)

@@ -14,6 +14,16 @@ use Rattle.pixel.specs.declared.Pixel.{Pixel}
 use Rattle.pixel.specs.declared.Measures.{Measures}
 use Rattle.pixel.specs.declared.Turned.{Turned}
 
+-- M1, M3 and M8: how many bins each measure has
+abbrev pub intensityCount : ℕ
+intensityCount = 52
+
+abbrev pub saturationCount : ℕ
+saturationCount = 42
+
+abbrev pub hueCount : ℕ
+hueCount = 60
+
 -- M1: the sum of the three bytes, in bins 15 wide
 unfoldable pub intensityBin : Pixel → ℕ
 intensityBin p = (p .red + p .green + p .blue) / 15

@@ -5,7 +5,7 @@ use mathlib.Core.Bool.{false}
 use lib.IntN.{pos}
 use Rattle.pixel.specs.declared.Pixel.{Pixel}
 use Rattle.pixel.specs.declared.Measures.{Measures}
-use Rattle.pixel.specs.Colour.{Point, chromaSquared, saturationBin, isGrey, huePoint, quarter, turnedBack, turnedOf, measuresOf}
+use Rattle.pixel.specs.Colour.{Point, intensityCount, saturationCount, hueCount, chromaSquared, saturationBin, isGrey, huePoint, quarter, turnedBack, turnedOf, measuresOf}
 
 -- a pixel of bytes
 pub record Bytes (p : Pixel) : Type 0 where
@@ -15,9 +15,9 @@ pub record Bytes (p : Pixel) : Type 0 where
 
 -- M1, M3 and M8: the ranges of the bins
 pub record InRange (m : Measures) : Type 0 where
-  pub intensity : m .intensity ≤ 51
-  pub saturation : m .saturation ≤ 41
-  pub hue : m .hue ≤ 59
+  pub intensity : m .intensity < intensityCount
+  pub saturation : m .saturation < saturationCount
+  pub hue : m .hue < hueCount
 
 abbrev pub AlwaysInRange : Type 0
 AlwaysInRange = (p : Pixel) → Bytes p → InRange (measuresOf p)

@@ -1,11 +1,12 @@
 // The measures of a pixel: its intensity, saturation and hue bins, and whether it is grey.
 ghost use mathlib.Core.Path.{_≡_};
 ghost use mathlib.Core.Bool.{cond, not};
-ghost use Prim.Native.Nat.{_+_, _*_, _-_, _≤_};
+ghost use Prim.Native.Nat.{_+_, _*_, _-_, _≤_, _<_};
 ghost use lib.Dec.{leb};
 ghost use lib.ListN.{getD};
-ghost use Rattle.pixel.specs.Root.{RootWithin, AllRoots, lineOf};
+ghost use Rattle.pixel.specs.Root.{RootWithin, rootCount, Rooted, lineOf};
 ghost use Rattle.pixel.specs.Colour.{
+  saturationCount,
   intensityBin,
   chromaSquared,
   isGrey,
@@ -158,19 +159,27 @@ pub fn saturation_bin(p: Pixel) -> u8
     saturation_of(chroma_squared(p))
 }
 
+// Writes the root j at the places of its numbers, from j² up to the next square.
+fn write_root(roots: &mut [u8], j: usize)
+    requires { ⌜ (j < saturationCount) × Rooted (now roots) (j * j) ⌝ }
+    ensures { λ _. ⌜ Rooted (now (roots .exit)) ((j + 1) * (j + 1)) ⌝ }
+{
+    let end = (j + 1) * (j + 1);
+    let mut x = j * j;
+    while x < end {
+        roots[x] = j as u8;
+        x += 1;
+    }
+}
+
 // The square roots of the numbers from 0 on, rounded down: where many saturations are taken, a root is read and not computed.
 pub fn roots() -> [u8; ROOTS]
-    ensures { λ r. ⌜ AllRoots r ⌝ }
+    ensures { λ r. ⌜ Rooted r rootCount ⌝ }
 {
     let mut roots = [0u8; ROOTS];
-    let mut x = 0;
     let mut j = 0;
     while j < SATURATIONS {
-        let end = (j + 1) * (j + 1);
-        while x < end {
-            roots[x] = j as u8;
-            x += 1;
-        }
+        write_root(&mut roots, j);
         j += 1;
     }
     roots
@@ -178,7 +187,7 @@ pub fn roots() -> [u8; ROOTS]
 
 // The saturation bin, with its root read from the table.
 pub fn saturation_by(roots: &[u8], p: Pixel) -> u8
-    requires { ⌜ AllRoots (now roots) ⌝ }
+    requires { ⌜ Rooted (now roots) rootCount ⌝ }
     ensures { λ r. ⌜ r ≡ saturationBin p ⌝ }
 {
     roots[(2 * chroma_squared(p) / 75) as usize]
