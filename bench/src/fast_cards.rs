@@ -1,6 +1,6 @@
-//! The card, in the fastest form we know: each pixel is measured once and its three bins are kept; then every pixel holds the
-//! number of its node, and one pass for each level moves all pixels on and counts the histograms of all nodes at once. The
-//! engine sorts instead, node by node, which takes less memory and needs no table of nodes.
+//! The card, written for speed in another form than the engine's: each pixel is measured once and its three bins are kept;
+//! then every pixel holds the number of its node, and one pass for each level moves all pixels on and counts the histograms
+//! of all nodes at once. The engine sorts instead, node by node, which takes less memory and needs no table of nodes.
 
 use crate::fast::line_modes;
 use reference::calls::{CardAnswer, MOST_ENTRIES};

@@ -3,7 +3,7 @@
  * rest. Each call is made in a thread whose stack has been filled with one byte. What a thread that calls nothing has overwritten
  * is taken off, and so is the answer, which is the caller's and stands on the caller's stack here.
  *
- *     stack SWATCH    a swatch of 16,384 pixels
+ *     stack SWATCH    a swatch with several modes at each level, so that every kind of test is made
  */
 #define _POSIX_C_SOURCE 200809L
 #include <kistrovu.h>
