@@ -5,10 +5,10 @@ use mathlib.Core.Bool.{Bool, true, false, cond, _&&_}
 use mathlib.Core.List.{List, [], _∷_, _++_}
 use native.Mathlib.Numerals.{add-one}
 use native.Mathlib.Omega.{arith}
-use lib.Dec.{eqb}
+use lib.Dec.{eqb, leb}
 use lib.ListN.{length, take, drop, getD, set, length-map, length-set}
 use lib.Seq.{ext-getD, take-suc, getD-set-same, getD-set-other}
-use borrow.Author.Tests.{eqb-true, eqb-false, le-leb, lt-leb}
+use borrow.Author.Tests.{eqb-true, eqb-false, leb-true}
 use Rattle.lists.specs.Lists.{total, numbers, countIf, filter, firstIndex}
 use Rattle.lists.proofs.Each.{Each, each-at, each-all}
 use Rattle.lists.proofs.Counting.{count-filter, count-same, number-counted}
@@ -17,13 +17,13 @@ use Rattle.lists.proofs.Places.{map-at}
 use Rattle.pixel.specs.declared.Pixel.{Pixel}
 use Rattle.pixel.specs.Ranges.{Bytes}
 use Rattle.verdict.specs.Test.{Closeness}
-use Rattle.palette.specs.Cards.{Branch, allGreys, branches, entries, label, labels, mostEntries}
+use Rattle.palette.specs.Cards.{Branch, allGreys, branches, label, labels, mostEntries}
 use Rattle.palette.specs.Sound.{pixelAt}
 use Rattle.palette.proofs.OneBranch.{one-branch}
 use Rattle.palette.proofs.OneEntry.{branchAt, entries-length}
 use Rattle.dividing.specs.Splitting.{numbersOf}
-use Rattle.making.specs.Making.{rangeOf, labelled, labelsBy, RangesLaid, labelsLeft}
-use Rattle.making.proofs.Laid.{BranchesLaid, next-start, part-is, below, range-at}
+use Rattle.making.specs.Making.{rangeOf, labelled, labelsBy, RangesLaid, heldOf, labelsLeft, PixelsLaid}
+use Rattle.making.proofs.Laid.{next-start, part-is, range-at}
 
 -- ---- one entry's label
 labelled-length : (k : ℕ) (xs lent : List ℕ) → length (labelled k xs lent) ≡ length lent
@@ -122,17 +122,17 @@ given-more xs sizes lent n pixels r k at now g more next q = record {
 }
 
 -- ---- the labels of all entries
-module _ (e : Closeness) (ps : List Pixel) (bytes : Each Bytes ps) (xs rest sizes : List ℕ) (n : ℕ) (d : BranchesLaid e ps xs rest sizes n) (lent : List ℕ) (same : length lent ≡ length ps) where
+module _ (e : Closeness) (ps : List Pixel) (bytes : Each Bytes ps) (xs sizes : List ℕ) (d : PixelsLaid e ps xs sizes) (few : length (branches e ps) ≤ mostEntries) (lent : List ℕ) (same : length lent ≡ length ps) where
   one : (i : ℕ) → i < length ps → countIf (λ (c : Branch). c .has (pixelAt ps i)) (branches e ps) ≡ 1
   one i l = each-at (λ p. countIf (λ (c : Branch). c .has p) (branches e ps) ≡ 1) ps (record { red = 0; green = 0; blue = 0 }) (one-branch e ps bytes) i l
 
-  label-at : (k i : ℕ) → i < length ps → k ≤ n → label e ps (pixelAt ps i) < k → getD (labelsBy sizes xs k lent) i 0 ≡ label e ps (pixelAt ps i)
+  label-at : (k i : ℕ) → i < length ps → k ≤ length (branches e ps) → label e ps (pixelAt ps i) < k → getD (labelsBy sizes xs k lent) i 0 ≡ label e ps (pixelAt ps i)
   unfolding labelsBy label
   label-at zero i l m h = absurd (omega arith)
   label-at (suc k) i l m h =
       let has : Branch → Bool = λ b. b .has (pixelAt ps i) in
-      let here = passes-at-first has (branches e ps) allGreys (one i l) k (below e ps xs rest sizes n d k (omega arith)) in
-      ap (λ (z : List ℕ). getD (labelled k z (labelsBy sizes xs k lent)) i 0) (range-at e ps xs rest sizes n d k (omega arith))
+      let here = passes-at-first has (branches e ps) allGreys (one i l) k (omega arith) in
+      ap (λ (z : List ℕ). getD (labelled k z (labelsBy sizes xs k lent)) i 0) (range-at e ps xs sizes d few k (omega arith))
       ∙ branch-labelled ps (branchAt e ps k) k (labelsBy sizes xs k lent) i (labels-by-length sizes xs k lent ∙ same) l
       ∙ go (eqb k j) refl here (λ o. label-at k i l (omega arith) o)
     where
@@ -144,20 +144,21 @@ module _ (e : Closeness) (ps : List Pixel) (bytes : Each Bytes ps) (xs rest size
       go true q p rest = rw (p ∙ q) (eqb-true k j q)
       go false q p rest = rw (p ∙ q) (rest (let apart = eqb-false k j q in omega arith))
 
-  labels-are : labelsBy sizes xs n lent ≡ labels e ps
+  labels-are : labelsBy sizes xs (length (branches e ps)) lent ≡ labels e ps
   unfolding labels label
   labels-are =
-      ext-getD 0 (labelsBy sizes xs n lent) (labels e ps) (labels-by-length sizes xs n lent ∙ same ∙ sym (length-map ps (label e ps))) (λ i u.
-      let l : i < length ps = omega (arith, labels-by-length sizes xs n lent) in
+      ext-getD 0 (labelsBy sizes xs (length (branches e ps)) lent) (labels e ps) (labels-by-length sizes xs (length (branches e ps)) lent ∙ same ∙ sym (length-map ps (label e ps))) (λ i u.
+      let l : i < length ps = omega (arith, labels-by-length sizes xs (length (branches e ps)) lent) in
       let only = one i l in
-      label-at n i l (omega arith) (omega (arith, d .count, first-below (λ (c : Branch). c .has (pixelAt ps i)) (branches e ps) (omega arith)))
+      label-at (length (branches e ps)) i l (omega arith) (omega (arith, first-below (λ (c : Branch). c .has (pixelAt ps i)) (branches e ps) (omega arith)))
       ∙ sym (map-at (label e ps) ps i (record { red = 0; green = 0; blue = 0 }) 0 l))
 
-  -- they are left where a card may hold them
-  pub labels-left : n ≤ mostEntries → labelsBy sizes xs n lent ≡ labelsLeft e ps lent
-  unfolding labelsLeft
-  labels-left few = rw (le-leb (length (entries e ps)) mostEntries (omega (arith, d .count, entries-length e ps))) labels-are
-
-pub labels-kept : (e : Closeness) (ps : List Pixel) (lent : List ℕ) → mostEntries < length (entries e ps) → lent ≡ labelsLeft e ps lent
-unfolding labelsLeft
-labels-kept e ps lent many = rw (lt-leb (length (entries e ps)) mostEntries many) refl
+-- the entries that a card holds leave the labels as they should be
+pub labels-left : (e : Closeness) (ps : List Pixel) → Each Bytes ps → (xs sizes : List ℕ) → PixelsLaid e ps xs sizes → (n : ℕ) → n ≡ length (branches e ps)
+    → (lent : List ℕ) → length lent ≡ length ps → labelsBy sizes xs (heldOf n) lent ≡ labelsLeft e ps lent
+unfolding heldOf labelsBy labelsLeft
+labels-left e ps bytes xs sizes d n q lent same = rw (entries-length e ps, sym q) (go (leb n mostEntries) refl)
+  where
+    go : (t : Bool) → leb n mostEntries ≡ t → labelsBy sizes xs (cond t n 0) lent ≡ cond t (labels e ps) lent
+    go true t = rw q (labels-are e ps bytes xs sizes d (omega (arith, leb-true n mostEntries t)) lent same)
+    go false t = refl

@@ -2,16 +2,17 @@
 use Prim.Native.Nat.{ℕ, zero, suc, _+_, _*_, _/_, _%_, _≤_, _<_}
 use mathlib.Core.Path.{_≡_}
 use mathlib.Core.Bool.{Bool, cond}
-use mathlib.Core.List.{List, [], _∷_, map}
+use mathlib.Core.List.{List, [], _∷_, map, flatMap}
 use lib.Dec.{leb}
 use lib.ListN.{length, take, drop, getD, set}
 use Rattle.lists.specs.Lists.{total, numbers, padded}
 use Rattle.pixel.specs.declared.Pixel.{Pixel}
 use Rattle.verdict.specs.Test.{Closeness}
 use Rattle.palette.specs.declared.Entry.{Entry}
-use Rattle.palette.specs.Cards.{entries, labels, mostEntries, noEntry}
+use Rattle.palette.specs.Cards.{branches, entries, labels, mostEntries, noEntry}
 use Rattle.palette.specs.Sound.{pixelAt, mostPixels}
 use Rattle.dividing.specs.Sorted.{codeCount, modeBase}
+use Rattle.dividing.specs.Splitting.{numbersOf}
 use Rattle.making.specs.declared.CardEntries.{CardEntries}
 use Rattle.making.specs.declared.Sums.{Sums}
 
@@ -86,7 +87,7 @@ cardEntries e ps = record { total = length (entries e ps); entries = padded most
 unfoldable pub labelsLeft : Closeness → List Pixel → List ℕ → List ℕ
 labelsLeft e ps lent = cond (fits e ps) (labels e ps) lent
 
--- what writing the labels relies on, and that they are then as they should be left
-pub record LabelsLaid (e : Closeness) (ps : List Pixel) (xs sizes : List ℕ) (n : ℕ) : Type 0 where
-  pub ranges : RangesLaid xs sizes n (length ps)
-  pub given : (lent : List ℕ) → length lent ≡ length ps → labelsBy sizes xs n lent ≡ labelsLeft e ps lent
+-- how the pixels are left: their numbers entry by entry, and how many each entry has, where a card may hold so many entries
+pub record PixelsLaid (e : Closeness) (ps : List Pixel) (order sizes : List ℕ) : Type 0 where
+  pub numbered : take (length ps) order ≡ flatMap (numbersOf ps) (branches e ps)
+  pub counted : length (branches e ps) ≤ mostEntries → take (length (branches e ps)) sizes ≡ map (λ b. length (numbersOf ps b)) (branches e ps)

@@ -1,12 +1,14 @@
 -- `make_entries` meets its contract. Assumes nothing.
 use Prim.Native.Nat.{ℕ, _*_, _/_, _<_}
 use mathlib.Core.Path.{_≡_, refl, sym, ap, _∙_}
-use mathlib.Core.List.{List}
+use mathlib.Core.List.{List, _++_}
 use native.Mathlib.Omega.{arith}
 use lib.ListN.{length, drop, getD}
 use lib.Seq.{length-take-le}
+use Rattle.palette.specs.Cards.{pixelsOf}
 use Rattle.palette.specs.Sound.{mostPixels}
-use Rattle.making.proofs.Divided.{divided-few, figures-laid, labels-laid, card-made}
+use Rattle.palette.proofs.Triples.{pixels-length}
+use Rattle.making.proofs.Divided.{FiguresLeft, divided-left, divided-few, figures-laid, card-made}
 use borrow.Author.Needs.{needs}
 use Rattle.making.proofs.cards.make_entries.Statement.{statement}
 use Rattle.making.proofs.cards.make_entries.Tie as tie
@@ -54,14 +56,21 @@ divide-pixels-requires c κs =
     let z = length-take-le (many s) (s .args .keys .now) (p .1 .2) in
     (p .0 .0 ∙ ap (λ (k : ℕ). 3 * k) (sym x), x ∙ sym y, z ∙ sym x, omega (arith, x, p .0 .0, p .0 .1), p .0 .2)
 
+-- how the division leaves the lists
+left : (m : tie.After-divide-pixels) → FiguresLeft (entry m .args .closeness) (pixelsOf (entry m .args .pixels .now)) (numbers m ++ rest m) (codes m) (sizes m) (m .divide-pixels .result)
+left m =
+    let a = entry m .args in
+    let p = entry m .pre in
+    divided-left (a .closeness) (pixelsOf (a .pixels .now)) (a .codes .now) (a .sizes .now) (codes m) (sizes m) (numbers m) (rest m) (m .divide-pixels .result) (m .divide-pixels .ensures) (p .1 .3) (p .1 .4)
+    (long m ∙ sym (pixels-length (a .pixels .now) (many (entry m)) (p .0 .0)))
+
 cast-t21 : tie.Need-cast-t21
 unfolding mostPixels
 cast-t21 c =
     let m = c .before .before .before .before .before .before .before .before .before .before in
     let a = entry m .args in
     let p = entry m .pre in
-    let d = m .divide-pixels in
-    omega (arith, divided-few (a .pixels .now) (byte m) (p .0 .0) (a .closeness) (a .codes .now) (a .sizes .now) (codes m) (sizes m) (numbers m) (rest m) (d .result) (d .ensures), long m, p .0 .0, p .0 .1)
+    omega (arith, divided-few (a .pixels .now) (byte m) (p .0 .0) (a .closeness) (codes m) (sizes m) (numbers m ++ rest m) (m .divide-pixels .result) (left m), p .0 .1)
 
 held-requires : tie.Need-held-requires
 held-requires c κs = search needs
@@ -71,22 +80,15 @@ entries-of-requires c κs =
     let m = c .before .before .before .before .before .before .before .before .before .before .before .before .before .before in
     let a = entry m .args in
     let p = entry m .pre in
-    let d = m .divide-pixels in
-    rw (c .held .ensures) (figures-laid (a .pixels .now) (byte m) (p .0 .0) (a .closeness) (a .codes .now) (a .sizes .now) (codes m) (sizes m) (numbers m) (rest m) (d .result) (d .ensures)
-    (p .1 .3) (p .1 .4) (d .kept .1 .1 .1 .1 .1 .0 ∙ p .1 .3) (d .kept .1 .1 .1 .1 .1 .1 .0 ∙ p .1 .4) (omega (arith, long m, p .0 .0, p .0 .1)))
+    rw (c .held .ensures) (figures-laid (a .pixels .now) (byte m) (p .0 .0) (a .closeness) (codes m) (sizes m) (numbers m ++ rest m) (m .divide-pixels .result) (left m) (p .0 .1))
 
 returns : tie.Need-returns
 returns c =
     let m = c .before .before .before .before .before .before .before .before .before .before .before .before .before .before .before in
     let a = entry m .args in
     let p = entry m .pre in
-    let d = m .divide-pixels in
-    let made = rw (c .before .held .ensures) at (c .entries-of .ensures) in (
-      card-made (a .pixels .now) (byte m) (p .0 .0) (a .closeness) (a .codes .now) (a .sizes .now) (codes m) (sizes m) (numbers m) (rest m) (d .result) (d .ensures)
-          (p .1 .3) (p .1 .4) (d .kept .1 .1 .1 .1 .1 .0 ∙ p .1 .3) (d .kept .1 .1 .1 .1 .1 .1 .0 ∙ p .1 .4) _ refl made,
-      labels-laid (a .pixels .now) (byte m) (p .0 .0) (a .closeness) (a .codes .now) (a .sizes .now) (codes m) (sizes m) (numbers m) (rest m) (d .result) (d .ensures)
-          (p .1 .3) (p .1 .4) (d .kept .1 .1 .1 .1 .1 .0 ∙ p .1 .3) (d .kept .1 .1 .1 .1 .1 .1 .0 ∙ p .1 .4),
-    )
+    let made = rw (c .before .held .ensures) at (c .entries-of .ensures) in
+    (card-made (a .pixels .now) (byte m) (p .0 .0) (a .closeness) (codes m) (sizes m) (numbers m ++ rest m) (m .divide-pixels .result) (left m) _ refl made, left m .laid)
 
 pub make-entries-spec : {M : Type 1} → statement M
 make-entries-spec =
