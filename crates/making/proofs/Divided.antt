@@ -4,11 +4,9 @@ use mathlib.Core.Path.{_≡_, refl, sym, ap, ap₂, _∙_}
 use mathlib.Core.Bool.{Bool, true, false, cond}
 use mathlib.Core.List.{List, [], _++_, map, map-map}
 use native.Mathlib.Omega.{arith}
-use lib.Dec.{leb}
 use lib.ListN.{length, take, getD, length-map, length-take}
-use lib.Seq.{sets, getD-take, take-at}
-use borrow.Author.Tests.{leb-true}
-use Rattle.lists.specs.Lists.{numbers, padded}
+use lib.Seq.{sets, take-at}
+use Rattle.lists.specs.Lists.{padded}
 use Rattle.lists.proofs.Cases.{by-cond}
 use Rattle.lists.proofs.Stores.{take-sets}
 use Rattle.lists.proofs.Each.{Each, each-from, each-at, each-so}
@@ -22,16 +20,16 @@ use Rattle.palette.specs.declared.Entry.{Entry}
 use Rattle.palette.specs.Cards.{Branch, allGreys, members, meanOf, entryOf, branches, entries, mostEntries, noEntry, pixelsOf}
 use Rattle.palette.specs.Sound.{pixelAt, mostPixels}
 use Rattle.palette.proofs.OneBranch.{branches-filled}
-use Rattle.palette.proofs.OneEntry.{branchAt, entries-length}
+use Rattle.palette.proofs.OneEntry.{entries-length}
 use Rattle.palette.proofs.Triples.{pixels-bytes, pixels-length}
 use Rattle.dividing.specs.Splitting.{numbersOf, codeOf, leafOf}
 use Rattle.dividing.specs.Sorted.{modeBase}
 use Rattle.dividing.specs.Kinds.{PixelsDivided}
 use Rattle.dividing.proofs.Bridge.{members-numbered}
 use Rattle.making.specs.declared.CardEntries.{CardEntries}
-use Rattle.making.specs.Making.{rangeOf, sumOf, sumsOf, meanBy, entryBy, entriesBy, RangesLaid, FiguresLaid, heldOf, cardEntries, PixelsLaid}
+use Rattle.making.specs.Making.{rangeOf, sumOf, sumsOf, meanBy, entryBy, entriesBy, FiguresLaid, heldOf, fits, cardEntries, PixelsLaid}
 use Rattle.making.proofs.Digits.{Digits, code-below, branches-digits}
-use Rattle.making.proofs.Laid.{flat-many, own-few, sizes-total, size-at, range-at, ranges-laid}
+use Rattle.making.proofs.Laid.{lengths, flat-length, flat-many, BranchesLaid, ranges-laid, range-at, heldBranches, held-laid, held-first}
 
 -- ---- an entry
 mean-by : (f : Pixel → ℕ) (ps : List Pixel) (b : Branch) → meanBy (sumOf f ps (numbersOf ps b)) (length (numbersOf ps b)) ≡ meanOf (map f (members ps b))
@@ -58,14 +56,14 @@ bytes-each bytes byte = each-from Bytes (pixelsOf bytes) (record { red = 0; gree
 -- ---- the pixels divided
 -- how the lists are left: the codes of the entries too
 pub record FiguresLeft (e : Closeness) (ps : List Pixel) (xs codes sizes : List ℕ) (n : ℕ) : Type 0 where
-  pub count : n ≡ length (branches e ps)
+  pub count : n ≡ length (entries e ps)
   pub laid : PixelsLaid e ps xs sizes
   pub coded : length (branches e ps) ≤ mostEntries → take (length (branches e ps)) codes ≡ map codeOf (branches e ps)
 
 pub divided-left : (e : Closeness) (ps : List Pixel) (codes₀ sizes₀ codes sizes xs rest : List ℕ) (n : ℕ) → PixelsDivided e ps codes₀ sizes₀ codes sizes xs n
     → length codes₀ ≡ mostEntries → length sizes₀ ≡ mostEntries → length xs ≡ length ps → FiguresLeft e ps (xs ++ rest) codes sizes n
 divided-left e ps codes₀ sizes₀ codes sizes xs rest n d lc ls long = record {
-  count = omega (arith, d .count, length-map (branches e ps) (leafOf ps));
+  count = omega (arith, d .count, length-map (branches e ps) (leafOf ps), entries-length e ps);
   laid = record {
     numbered = take-at xs rest (length ps) long ∙ d .order ∙ flat-map-map (λ l. l .pixels) (leafOf ps) (branches e ps);
     counted = kept (λ b. length (numbersOf ps b)) sizes₀ sizes ls (d .sized ∙ ap (sets sizes₀ 0) (map-map (λ l. length (l .pixels)) (leafOf ps) (branches e ps)));
@@ -93,58 +91,60 @@ module _ (bytes : List ℕ) (byte : (j : ℕ) → getD bytes j 0 < 256) (long : 
   same = pixels-length bytes (length bytes / 3) long
 
   pub divided-few : n ≤ length bytes / 3
-  divided-few = omega (arith, d .count, same, own-few e ps xs sizes (d .laid), flat-many (numbersOf ps) (branches e ps) filled)
+  divided-few =
+      omega (arith, d .count, entries-length e ps, same, ap length (d .laid .numbered), length-take (length ps) xs, flat-many (numbersOf ps) (branches e ps) filled)
 
-  -- where a card may hold all entries
-  module _ (few : length (branches e ps) ≤ mostEntries) where
-    module _ (k : ℕ) (l : k < length (branches e ps)) where
-      digits : Digits (branchAt e ps k)
-      digits = each-at Digits (branches e ps) allGreys (branches-digits e ps) k l
+  -- those that a card holds
+  abbrev bs : List Branch
+  bs = heldBranches e ps
 
-      code-at : getD codes k 0 ≡ codeOf (branchAt e ps k)
-      code-at = sym (getD-take (length (branches e ps)) codes k 0 l) ∙ ap (λ (z : List ℕ). getD z k 0) (d .coded few) ∙ map-at codeOf (branches e ps) k allGreys 0 l
+  held-each : (P : Branch → Type 0) → Each P (branches e ps) → Each P bs
+  held-each P all = by-cond (Each P) (fits e ps) (branches e ps) [] (λ t. all) (λ t. tt)
 
-      size-is : getD sizes k 0 ≡ length (numbersOf ps (branchAt e ps k))
-      size-is = size-at e ps xs sizes (d .laid) few k l
+  laid : BranchesLaid ps bs xs
+  laid = held-laid e ps xs sizes (d .laid)
 
-      entry-is : entryBy (getD codes k 0) (getD sizes k 0) (sumsOf ps (rangeOf sizes xs k)) ≡ entryOf ps (branchAt e ps k)
-      entry-is = rw (code-at, range-at e ps xs sizes (d .laid) few k l, size-is) (entry-by ps (branchAt e ps k) digits)
+  sized : take (heldOf n) sizes ≡ lengths (numbersOf ps) bs
+  sized = held-first e ps (λ b. length (numbersOf ps b)) sizes (d .laid .counted) n (d .count)
 
-    entries-are : entriesBy (length (branches e ps)) codes sizes xs ps ≡ entries e ps
-    unfolding entriesBy entries
-    entries-are =
-        sym (table-is (λ k. entryBy (getD codes k 0) (getD sizes k 0) (sumsOf ps (rangeOf sizes xs k))) (length (branches e ps)) noEntry (map (entryOf ps) (branches e ps))
-        (length-map (branches e ps) (entryOf ps)) (λ k l. map-at (entryOf ps) (branches e ps) k allGreys noEntry l ∙ sym (entry-is k l)))
+  coded : take (heldOf n) codes ≡ map codeOf bs
+  coded = held-first e ps codeOf codes (d .coded) n (d .count)
 
-  pub figures-laid : length bytes ≤ 3 * mostPixels → FiguresLaid bytes xs codes sizes (heldOf n)
-  unfolding heldOf
-  figures-laid most =
-      by-cond (λ (k : ℕ). RangesLaid xs sizes k (length ps) → FiguresLaid bytes xs codes sizes k) (leb n mostEntries) n 0 (λ t. all (omega (arith, leb-true n mostEntries t, d .count)))
-      (λ t r. record { ranges = rw (sym same) r; many = omega arith; coded = omega arith; small = λ k l. absurd (omega arith); filled = λ k l. absurd (omega arith) })
-      (ranges-laid e ps xs sizes (d .laid) n (d .count))
+  digits : (k : ℕ) → k < length bs → Digits (getD bs k allGreys)
+  digits = each-at Digits bs allGreys (held-each Digits (branches-digits e ps))
+
+  pub figures-laid : length bytes ≤ 3 * mostPixels → FiguresLaid bytes xs (take (heldOf n) codes) (take (heldOf n) sizes)
+  figures-laid most = rw (coded, sized) (record {
+    ranges = rw (sym same) (ranges-laid ps bs xs laid);
+    many = omega (arith, flat-length (numbersOf ps) bs, laid .within, same);
+    coded = length-map bs codeOf ∙ sym (length-map bs count);
+    small = λ k u. let l : k < length bs = omega (arith, length-map bs codeOf) in rw (map-at codeOf bs k allGreys 0 l) (code-below (getD bs k allGreys) (digits k l));
+    filled = λ k u. let l : k < length bs = omega (arith, length-map bs count) in rw (map-at count bs k allGreys 0 l) (each-at (λ b. 0 < count b) bs allGreys (held-each (λ b. 0 < count b) filled) k l);
+  })
     where
-      all : length (branches e ps) ≤ mostEntries → RangesLaid xs sizes n (length ps) → FiguresLaid bytes xs codes sizes n
-      all few r =
-          let here : (k : ℕ) → k < n → k < length (branches e ps) = λ k l. omega (arith, d .count) in
-          record {
-            ranges = rw (sym same) r;
-            many = rw (d .count) (omega (arith, sizes-total e ps xs sizes (d .laid) few, own-few e ps xs sizes (d .laid), same));
-            coded = omega (arith, d .count, ap length (d .coded few), length-map (branches e ps) codeOf, length-take (length (branches e ps)) codes);
-            small = λ k l. rw (code-at few k (here k l)) (code-below (branchAt e ps k) (digits few k (here k l)));
-            filled = λ k l. omega (arith, size-is few k (here k l), each-at (λ b. 0 < length (numbersOf ps b)) (branches e ps) allGreys filled k (here k l));
-          }
+      count : Branch → ℕ
+      count b = length (numbersOf ps b)
 
-  pub card-made : (r : CardEntries) → r .total ≡ n → r .entries ≡ padded mostEntries noEntry (entriesBy (heldOf n) codes sizes xs ps) → r ≡ cardEntries e ps
-  unfolding heldOf cardEntries entriesBy numbers
+  entry-is : (k : ℕ) (l : k < length bs)
+      → entryBy (getD (map codeOf bs) k 0) (getD (lengths (numbersOf ps) bs) k 0) (sumsOf ps (rangeOf (lengths (numbersOf ps) bs) xs k)) ≡ entryOf ps (getD bs k allGreys)
+  entry-is k l = rw (map-at codeOf bs k allGreys 0 l, range-at ps bs xs laid k l, map-at (λ b. length (numbersOf ps b)) bs k allGreys 0 l) (entry-by ps (getD bs k allGreys) (digits k l))
+
+  entries-are : entriesBy (map codeOf bs) (lengths (numbersOf ps) bs) xs ps ≡ map (entryOf ps) bs
+  unfolding entriesBy
+  entries-are =
+      let long = length-map bs (λ b. length (numbersOf ps b)) in
+      sym (table-is _ (length (lengths (numbersOf ps) bs)) noEntry (map (entryOf ps) bs) (length-map bs (entryOf ps) ∙ sym long) (λ k u.
+      let l : k < length bs = omega (arith, long) in
+      map-at (entryOf ps) bs k allGreys noEntry l ∙ sym (entry-is k l)))
+
+  pub card-made : (r : CardEntries) → r .total ≡ n → r .entries ≡ padded mostEntries noEntry (entriesBy (take (heldOf n) codes) (take (heldOf n) sizes) xs ps) → r ≡ cardEntries e ps
+  unfolding cardEntries entries
   card-made r q made =
-      ap₂ makes (q ∙ total-is) (made ∙ ap (padded mostEntries noEntry) (rw (sym total-is) (go (leb n mostEntries) refl)))
+      ap₂ makes (q ∙ d .count) (made ∙ ap (padded mostEntries noEntry) (rw (coded, sized) (entries-are ∙ go (fits e ps))))
     where
-      total-is : n ≡ length (entries e ps)
-      total-is = d .count ∙ sym (entries-length e ps)
-
       makes : ℕ → List Entry → CardEntries
       makes k es = record { total = k; entries = es }
 
-      go : (t : Bool) → leb n mostEntries ≡ t → entriesBy (cond t n 0) codes sizes xs ps ≡ cond t (entries e ps) []
-      go true t = rw (d .count) (entries-are (omega (arith, leb-true n mostEntries t, d .count)))
-      go false t = refl
+      go : (t : Bool) → map (entryOf ps) (cond t (branches e ps) []) ≡ cond t (entries e ps) []
+      go true = refl
+      go false = refl

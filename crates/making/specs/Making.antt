@@ -11,7 +11,7 @@ use Rattle.verdict.specs.Test.{Closeness}
 use Rattle.palette.specs.declared.Entry.{Entry}
 use Rattle.palette.specs.Cards.{branches, entries, labels, mostEntries, noEntry}
 use Rattle.palette.specs.Sound.{pixelAt, mostPixels}
-use Rattle.dividing.specs.Sorted.{codeCount, modeBase}
+use Rattle.dividing.specs.Sorted.{codeCount, modeBase, AllBelow}
 use Rattle.dividing.specs.Splitting.{numbersOf}
 use Rattle.making.specs.declared.CardEntries.{CardEntries}
 use Rattle.making.specs.declared.Sums.{Sums}
@@ -49,28 +49,27 @@ entryBy code count sums = record {
   count = count;
 }
 
--- the first n entries, and the labels that they give
-unfoldable pub entriesBy : (n : ℕ) (codes sizes xs : List ℕ) → List Pixel → List Entry
-entriesBy n codes sizes xs ps = map (λ k. entryBy (getD codes k 0) (getD sizes k 0) (sumsOf ps (rangeOf sizes xs k))) (numbers 0 n)
+-- an entry for each size, and the labels that the first of them give
+unfoldable pub entriesBy : (codes sizes xs : List ℕ) → List Pixel → List Entry
+entriesBy codes sizes xs ps = map (λ k. entryBy (getD codes k 0) (getD sizes k 0) (sumsOf ps (rangeOf sizes xs k))) (numbers 0 (length sizes))
 
 unfoldable pub labelsBy : (sizes xs : List ℕ) → ℕ → List ℕ → List ℕ
 labelsBy sizes xs zero lent = lent
 labelsBy sizes xs (suc k) lent = labelled k (rangeOf sizes xs k) (labelsBy sizes xs k lent)
 
--- n ranges that a card may hold, one after the other, of the numbers of so many pixels
-pub record RangesLaid (xs sizes : List ℕ) (n pixels : ℕ) : Type 0 where
-  pub few : n ≤ mostEntries
-  pub sized : n ≤ length sizes
-  pub whole : total (take n sizes) ≤ length xs
-  pub inside : (i : ℕ) → i < total (take n sizes) → getD xs i 0 < pixels
+-- ranges of these sizes, as many as a card may hold, one after the other, of the numbers of so many pixels
+pub record RangesLaid (xs sizes : List ℕ) (pixels : ℕ) : Type 0 where
+  pub few : length sizes ≤ mostEntries
+  pub whole : total sizes ≤ length xs
+  pub inside : (i : ℕ) → i < total sizes → getD xs i 0 < pixels
 
--- what making n entries relies on
-pub record FiguresLaid (bytes xs codes sizes : List ℕ) (n : ℕ) : Type 0 where
-  pub ranges : RangesLaid xs sizes n (length bytes / 3)
-  pub many : total (take n sizes) ≤ mostPixels
-  pub coded : n ≤ length codes
-  pub small : (k : ℕ) → k < n → getD codes k 0 < codeCount
-  pub filled : (k : ℕ) → k < n → 0 < getD sizes k 0
+-- what making the entries relies on
+pub record FiguresLaid (bytes xs codes sizes : List ℕ) : Type 0 where
+  pub ranges : RangesLaid xs sizes (length bytes / 3)
+  pub many : total sizes ≤ mostPixels
+  pub coded : length codes ≡ length sizes
+  pub small : AllBelow codes codeCount
+  pub filled : (k : ℕ) → k < length sizes → 0 < getD sizes k 0
 
 -- how many of n entries a card holds: none where they are too many
 unfoldable pub heldOf : ℕ → ℕ

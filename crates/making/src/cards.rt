@@ -46,9 +46,10 @@ pub fn make_entries(
         codes,
         sizes,
     );
+    let kept = held(total);
     CardEntries {
         total: total as u32,
-        entries: entries_of(pixels, order, codes, sizes, held(total)),
+        entries: entries_of(pixels, order, &codes[..kept], &sizes[..kept]),
     }
 }
 
@@ -72,6 +73,6 @@ pub fn make_card(pixels: &[u8], closeness: u32, labels: &mut [u8]) -> CardEntrie
         &mut codes,
         &mut sizes,
     );
-    write_labels(&order, &sizes, held(made.total as usize), labels);
+    write_labels(&order, &sizes[..held(made.total as usize)], labels);
     made
 }

@@ -64,21 +64,20 @@ fn entry(code: u32, count: u32, sums: Sums) -> Entry
     }
 }
 
-// The n entries, each of the next of the numbers, as many as its size says.
+// An entry for each size, of the next of the numbers, as many as the size says.
 pub fn entries_of(
     pixels: &[u8],
     numbers: &[u16],
     codes: &[u32],
     sizes: &[u32],
-    n: usize,
 ) -> [Entry; MOST_ENTRIES]
-    requires { ⌜ FiguresLaid (now pixels) (now numbers) (now codes) (now sizes) n ⌝ }
-    ensures { λ r. ⌜ r ≡ padded mostEntries noEntry (entriesBy n (now (codes .entry)) (now (sizes .entry)) (now (numbers .entry)) (pixelsOf (now (pixels .entry)))) ⌝ }
+    requires { ⌜ FiguresLaid (now pixels) (now numbers) (now codes) (now sizes) ⌝ }
+    ensures { λ r. ⌜ r ≡ padded mostEntries noEntry (entriesBy (now (codes .entry)) (now (sizes .entry)) (now (numbers .entry)) (pixelsOf (now (pixels .entry)))) ⌝ }
 {
     let mut entries = [no_entry(); MOST_ENTRIES];
     let mut at = 0;
     let mut k = 0;
-    while k < n {
+    while k < sizes.len() {
         let end = at + sizes[k] as usize;
         let sums = gather(pixels, &numbers[at..end]);
         entries[k] = entry(codes[k], sizes[k], sums);
@@ -100,14 +99,14 @@ fn label_range(numbers: &[u16], label: u8, labels: &mut [u8])
     }
 }
 
-// Each of the n entries labels the next of the numbers, as many as its size says.
-pub fn write_labels(numbers: &[u16], sizes: &[u32], n: usize, labels: &mut [u8])
-    requires { ⌜ RangesLaid (now numbers) (now sizes) n (length (now labels)) ⌝ }
-    ensures { λ _. ⌜ now (labels .exit) ≡ labelsBy (now (sizes .entry)) (now (numbers .entry)) n (now (labels .entry)) ⌝ }
+// Each entry labels the next of the numbers, as many as its size says.
+pub fn write_labels(numbers: &[u16], sizes: &[u32], labels: &mut [u8])
+    requires { ⌜ RangesLaid (now numbers) (now sizes) (length (now labels)) ⌝ }
+    ensures { λ _. ⌜ now (labels .exit) ≡ labelsBy (now (sizes .entry)) (now (numbers .entry)) (length (now (sizes .entry))) (now (labels .entry)) ⌝ }
 {
     let mut at = 0;
     let mut k = 0;
-    while k < n {
+    while k < sizes.len() {
         let end = at + sizes[k] as usize;
         label_range(&numbers[at..end], k as u8, labels);
         at = end;

@@ -1,17 +1,16 @@
 -- `make_card` meets its contract: it makes the scratch and lends it. Assumes nothing.
-use Prim.Native.Nat.{ℕ}
-use mathlib.Core.Path.{_≡_, refl, sym, ap, _∙_}
+use Prim.Native.Nat.{ℕ, _≤_}
+use mathlib.Core.Path.{_≡_, refl, sym, _∙_}
+use mathlib.Core.List.{List}
 use native.Mathlib.Omega.{arith}
 use lib.ListN.{length, length-replicate}
-use Rattle.palette.specs.Cards.{branches, mostEntries, pixelsOf}
+use lib.Seq.{length-take-le}
+use Rattle.palette.specs.Cards.{mostEntries, pixelsOf}
 use Rattle.palette.specs.Sound.{mostPixels}
-use Rattle.palette.proofs.OneEntry.{entries-length}
 use Rattle.palette.proofs.Triples.{pixels-length}
-use Rattle.making.specs.declared.CardEntries.{CardEntries}
-use Rattle.making.specs.Making.{cardEntries}
 use Rattle.making.proofs.Divided.{bytes-each}
-use Rattle.making.proofs.Laid.{ranges-laid}
-use Rattle.making.proofs.Labelled.{labels-left}
+use Rattle.making.proofs.Laid.{held-few}
+use Rattle.making.proofs.Labelled.{labels-laid, labels-left}
 use borrow.Author.Needs.{needs}
 use Rattle.making.proofs.cards.make_card.Statement.{statement}
 use Rattle.making.proofs.cards.make_card.Tie as tie
@@ -23,34 +22,36 @@ make-entries-requires c κs =
     let wide = length-replicate {A = ℕ} mostPixels 0 in
     ((omega (arith, p .0), omega (arith, p .0, p .1), p .2), (omega (arith, p .0, p .1), omega (arith, p .0, p .1), omega (arith, p .0, p .1), refl, refl))
 
-held-requires : tie.Need-held-requires
-held-requires c κs = search needs
+-- the way to the entries, and to the call
+abbrev made : tie.After-held → tie.After-make-entries
+made h = h .before .before .before .before .before .before .before .before
 
--- the way to the call
-abbrev entry : tie.After-make-entries → tie.Start
-entry m = m .before .before .before .before .before .before .before .before
+abbrev entry : tie.After-held → tie.Start
+entry h = made h .before .before .before .before .before .before .before .before
 
--- as many labels as pixels
-long : (m : tie.After-make-entries) → length (pixelsOf (entry m .args .pixels .now)) ≡ length (entry m .args .labels .now)
-long m = pixels-length (entry m .args .pixels .now) (length (entry m .args .labels .now)) (entry m .pre .0)
+long : (h : tie.After-held) → length (pixelsOf (entry h .args .pixels .now)) ≡ length (entry h .args .labels .now)
+long h = pixels-length (entry h .args .pixels .now) (length (entry h .args .labels .now)) (entry h .pre .0)
 
-count : (m : tie.After-make-entries) → m .make-entries .result .total ≡ length (branches (entry m .args .closeness) (pixelsOf (entry m .args .pixels .now)))
-unfolding cardEntries
-count m = ap (λ (r : CardEntries). r .total) (m .make-entries .ensures .0) ∙ entries-length (entry m .args .closeness) (pixelsOf (entry m .args .pixels .now))
+abbrev sizes : tie.After-held → List ℕ
+sizes h = made h .make-entries .last .1 .1 .1 .1 .1 .1 .0
+
+room : (h : tie.After-held) → h .held .result ≤ length (sizes h)
+unfolding mostEntries
+room h = omega (arith, h .held .ensures, held-few (made h .make-entries .result .total), made h .make-entries .kept .1 .1 .1 .1 .1 .1 .0)
 
 write-labels-requires : tie.Need-write-labels-requires
 write-labels-requires c κs =
-    let m = c .before .before .before .before .before .before .before .before .before .before in
-    let a = entry m .args in
-    rw (c .before .held .ensures, sym (long m)) (ranges-laid (a .closeness) (pixelsOf (a .pixels .now)) _ _ (m .make-entries .ensures .1) (m .make-entries .result .total) (count m))
+    let h = c .before .before in
+    let m = made h .make-entries in
+    rw (h .held .ensures, sym (long h)) (labels-laid _ _ _ _ (m .ensures .1) _ (m .ensures .0))
 
 returns : tie.Need-returns
 returns c =
-    let m = c .before .before .before .before .before .before .before .before .before .before .before .before .before in
-    let a = entry m .args in
-    let bytes = bytes-each (a .pixels .now) (λ j. let known = m .before .before .before .before .before .before .before .shared-slice-known .given j in omega arith) in
-    let left = labels-left (a .closeness) (pixelsOf (a .pixels .now)) bytes _ _ (m .make-entries .ensures .1) (m .make-entries .result .total) (count m) (a .labels .now) (sym (long m)) in
-    (m .make-entries .ensures .0, rw (c .before .before .before .before .held .ensures) at (c .before .before .write-labels .ensures) ∙ left)
+    let h = c .before .before .before .before .before in
+    let m = made h .make-entries in
+    let bytes = bytes-each (entry h .args .pixels .now) (λ j. let known = made h .before .before .before .before .before .before .before .shared-slice-known .given j in omega arith) in
+    let left = labels-left _ _ _ _ (m .ensures .1) _ (m .ensures .0) bytes (entry h .args .labels .now) (sym (long h)) in
+    (m .ensures .0, rw (h .held .ensures) at (c .before .before .write-labels .ensures) ∙ left)
 
 pub make-card-spec : {M : Type 1} → statement M
 make-card-spec =
@@ -64,8 +65,9 @@ make-card-spec =
     make-entries-requires
     (λ c. search needs)
     (λ c. search needs)
-    (λ c. search needs)
-    held-requires
+    (λ c κs. search needs)
+    room
+    (λ c. sym (length-take-le _ (sizes (c .before)) (room (c .before))))
     write-labels-requires
     (λ c. search needs)
     returns)

@@ -1,5 +1,5 @@
 -- `make_entries` meets its contract. Assumes nothing.
-use Prim.Native.Nat.{ℕ, _*_, _/_, _<_}
+use Prim.Native.Nat.{ℕ, _*_, _/_, _≤_, _<_}
 use mathlib.Core.Path.{_≡_, refl, sym, ap, _∙_}
 use mathlib.Core.List.{List, _++_}
 use native.Mathlib.Omega.{arith}
@@ -8,6 +8,7 @@ use lib.Seq.{length-take-le}
 use Rattle.palette.specs.Cards.{pixelsOf}
 use Rattle.palette.specs.Sound.{mostPixels}
 use Rattle.palette.proofs.Triples.{pixels-length}
+use Rattle.making.proofs.Laid.{held-few}
 use Rattle.making.proofs.Divided.{FiguresLeft, divided-left, divided-few, figures-laid, card-made}
 use borrow.Author.Needs.{needs}
 use Rattle.making.proofs.cards.make_entries.Statement.{statement}
@@ -59,36 +60,36 @@ divide-pixels-requires c κs =
 -- how the division leaves the lists
 left : (m : tie.After-divide-pixels) → FiguresLeft (entry m .args .closeness) (pixelsOf (entry m .args .pixels .now)) (numbers m ++ rest m) (codes m) (sizes m) (m .divide-pixels .result)
 left m =
-    let a = entry m .args in
     let p = entry m .pre in
-    divided-left (a .closeness) (pixelsOf (a .pixels .now)) (a .codes .now) (a .sizes .now) (codes m) (sizes m) (numbers m) (rest m) (m .divide-pixels .result) (m .divide-pixels .ensures) (p .1 .3) (p .1 .4)
-    (long m ∙ sym (pixels-length (a .pixels .now) (many (entry m)) (p .0 .0)))
+    divided-left _ _ _ _ _ _ _ (rest m) _ (m .divide-pixels .ensures) (p .1 .3) (p .1 .4) (long m ∙ sym (pixels-length (entry m .args .pixels .now) (many (entry m)) (p .0 .0)))
 
-cast-t21 : tie.Need-cast-t21
+-- the way to the division, and room for the entries that a card holds
+abbrev divided : tie.After-held → tie.After-divide-pixels
+divided h = h .before .before .before .before .before .before .before .before .before .before .before
+
+room : (h : tie.After-held) → (h .held .result ≤ length (codes (divided h))) × (h .held .result ≤ length (sizes (divided h)))
+room h =
+    let few = held-few (divided h .divide-pixels .result) in
+    let lists = divided h .divide-pixels .kept .1 .1 .1 .1 .1 in
+    let p = entry (divided h) .pre .1 in
+    (omega (arith, h .held .ensures, lists .0, p .3), omega (arith, h .held .ensures, lists .1 .0, p .4))
+
+cast-t22 : tie.Need-cast-t22
 unfolding mostPixels
-cast-t21 c =
-    let m = c .before .before .before .before .before .before .before .before .before .before in
-    let a = entry m .args in
-    let p = entry m .pre in
-    omega (arith, divided-few (a .pixels .now) (byte m) (p .0 .0) (a .closeness) (codes m) (sizes m) (numbers m ++ rest m) (m .divide-pixels .result) (left m), p .0 .1)
-
-held-requires : tie.Need-held-requires
-held-requires c κs = search needs
+cast-t22 c = let p = entry (divided c) .pre .0 in omega (arith, divided-few _ (byte (divided c)) (p .0) _ _ _ _ _ (left (divided c)), p .1)
 
 entries-of-requires : tie.Need-entries-of-requires
 entries-of-requires c κs =
-    let m = c .before .before .before .before .before .before .before .before .before .before .before .before .before .before in
-    let a = entry m .args in
-    let p = entry m .pre in
-    rw (c .held .ensures) (figures-laid (a .pixels .now) (byte m) (p .0 .0) (a .closeness) (codes m) (sizes m) (numbers m ++ rest m) (m .divide-pixels .result) (left m) (p .0 .1))
+    let h = c .before .before .before in
+    let m = divided h in
+    rw (h .held .ensures) (figures-laid _ (byte m) (entry m .pre .0 .0) _ _ _ _ _ (left m) (entry m .pre .0 .1))
 
 returns : tie.Need-returns
 returns c =
-    let m = c .before .before .before .before .before .before .before .before .before .before .before .before .before .before .before in
-    let a = entry m .args in
-    let p = entry m .pre in
-    let made = rw (c .before .held .ensures) at (c .entries-of .ensures) in
-    (card-made (a .pixels .now) (byte m) (p .0 .0) (a .closeness) (codes m) (sizes m) (numbers m ++ rest m) (m .divide-pixels .result) (left m) _ refl made, left m .laid)
+    let h = c .before .before .before .before in
+    let m = divided h in
+    let made = rw (h .held .ensures) at (c .entries-of .ensures) in
+    (card-made _ (byte m) (entry m .pre .0 .0) _ _ _ _ _ (left m) _ refl made, left m .laid)
 
 pub make-entries-spec : {M : Type 1} → statement M
 make-entries-spec =
@@ -101,8 +102,12 @@ make-entries-spec =
     (λ c. search needs)
     slice-aggregate-divide-pixels-3
     divide-pixels-requires
-    cast-t21
-    held-requires
+    (λ c κs. search needs)
+    cast-t22
+    (λ c. room (c .before) .0)
+    (λ c. sym (length-take-le _ _ (room (c .before .before) .0)))
+    (λ c. room (c .before .before) .1)
+    (λ c. sym (length-take-le _ _ (room (c .before .before .before) .1)))
     entries-of-requires
     (λ c. search needs)
     (λ c. search needs)
