@@ -17,7 +17,7 @@ use Rattle.pixel.specs.declared.Pixel.{Pixel}
 use Rattle.pixel.specs.Ranges.{Bytes}
 use Rattle.verdict.specs.Test.{Closeness}
 use Rattle.palette.specs.declared.Entry.{Entry}
-use Rattle.palette.specs.Cards.{Branch, allGreys, members, meanOf, entryOf, branches, entries, mostEntries, noEntry, pixelsOf}
+use Rattle.palette.specs.Cards.{Branch, allGreys, members, meanBy, meanOf, entryOf, branches, entries, mostEntries, noEntry, pixelsOf}
 use Rattle.palette.specs.Sound.{pixelAt, mostPixels}
 use Rattle.palette.proofs.OneBranch.{branches-filled}
 use Rattle.palette.proofs.OneEntry.{entries-length}
@@ -27,13 +27,13 @@ use Rattle.dividing.specs.Sorted.{modeBase}
 use Rattle.dividing.specs.Kinds.{PixelsDivided}
 use Rattle.dividing.proofs.Bridge.{members-numbered}
 use Rattle.making.specs.declared.CardEntries.{CardEntries}
-use Rattle.making.specs.Making.{rangeOf, sumOf, sumsOf, meanBy, entryBy, entriesBy, FiguresLaid, heldOf, fits, cardEntries, PixelsLaid}
+use Rattle.making.specs.Making.{rangeOf, sumOf, sumsOf, entryBy, entriesBy, FiguresLaid, heldOf, fits, cardEntries, PixelsLaid}
 use Rattle.making.proofs.Digits.{Digits, code-below, branches-digits}
 use Rattle.making.proofs.Laid.{lengths, flat-length, flat-many, BranchesLaid, ranges-laid, range-at, heldBranches, held-laid, held-first}
 
 -- ---- an entry
 mean-by : (f : Pixel → ℕ) (ps : List Pixel) (b : Branch) → meanBy (sumOf f ps (numbersOf ps b)) (length (numbersOf ps b)) ≡ meanOf (map f (members ps b))
-unfolding meanBy meanOf sumOf
+unfolding meanOf sumOf
 mean-by f ps b =
     let own = numbersOf ps b in
     let all : map (λ i. f (pixelAt ps i)) own ≡ map f (members ps b) = sym (map-map f (pixelAt ps) own) ∙ ap (map f) (members-numbered ps b) in

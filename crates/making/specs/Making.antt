@@ -1,5 +1,5 @@
 -- How the code makes entries and labels from the numbers of the pixels, entry by entry. No public promise cites it. Assumes nothing.
-use Prim.Native.Nat.{ℕ, zero, suc, _+_, _*_, _/_, _%_, _≤_, _<_}
+use Prim.Native.Nat.{ℕ, zero, suc, _/_, _%_, _≤_, _<_}
 use mathlib.Core.Path.{_≡_}
 use mathlib.Core.Bool.{Bool, cond}
 use mathlib.Core.List.{List, [], _∷_, map, flatMap}
@@ -9,7 +9,7 @@ use Rattle.lists.specs.Lists.{total, numbers, padded}
 use Rattle.pixel.specs.declared.Pixel.{Pixel}
 use Rattle.verdict.specs.Test.{Closeness}
 use Rattle.palette.specs.declared.Entry.{Entry}
-use Rattle.palette.specs.Cards.{branches, entries, labels, mostEntries, noEntry}
+use Rattle.palette.specs.Cards.{meanBy, branches, entries, labels, mostEntries, noEntry}
 use Rattle.palette.specs.Sound.{pixelAt, mostPixels}
 use Rattle.dividing.specs.Sorted.{codeCount, modeBase, AllBelow}
 use Rattle.dividing.specs.Splitting.{numbersOf}
@@ -31,10 +31,6 @@ sumsOf ps xs = record { red = sumOf (λ p. p .red) ps xs; green = sumOf (λ p. p
 unfoldable pub labelled : ℕ → List ℕ → List ℕ → List ℕ
 labelled k [] lent = lent
 labelled k (x ∷ xs) lent = labelled k xs (set lent x k)
-
--- a mean, halves up
-unfoldable pub meanBy : ℕ → ℕ → ℕ
-meanBy total count = (2 * total + count) / (2 * count)
 
 -- an entry from its code and its figures
 unfoldable pub entryBy : ℕ → ℕ → Sums → Entry

@@ -9,10 +9,10 @@ ghost use mathlib.Core.Path.{_≡_};
 ghost use Prim.Native.Nat.{_≤_, _<_, _*_, _+_, _/_};
 ghost use lib.ListN.{length};
 ghost use Rattle.lists.specs.Lists.{padded};
-ghost use Rattle.palette.specs.Cards.{pixelsOf, mostEntries, noEntry};
+ghost use Rattle.palette.specs.Cards.{meanBy, pixelsOf, mostEntries, noEntry};
 ghost use Rattle.palette.specs.Sound.{mostPixels};
 ghost use Rattle.dividing.specs.Sorted.{codeCount, AllBelow};
-ghost use Rattle.making.specs.Making.{sumsOf, labelled, meanBy, entryBy, entriesBy, labelsBy, RangesLaid, FiguresLaid};
+ghost use Rattle.making.specs.Making.{sumsOf, labelled, entryBy, entriesBy, labelsBy, RangesLaid, FiguresLaid};
 
 fn plus(sum: u32, level: u8) -> u32
     requires { ⌜ sum ≤ 255 * mostPixels ⌝ }

@@ -6,7 +6,7 @@ use native.Mathlib.Nat.{div-lt-iff-lt-mul}
 use borrow.Author.Needs.{needs}
 use mir.Syntax.{w8}
 use mir.Val.{Fits}
-use Rattle.making.specs.Making.{meanBy}
+use Rattle.palette.specs.Cards.{meanBy}
 use Rattle.palette.specs.Sound.{mostPixels}
 use Rattle.making.proofs.entries.mean.Statement.{statement}
 use Rattle.making.proofs.entries.mean.Tie as tie
