@@ -12,8 +12,8 @@ use Rattle.palette.specs.declared.Entry.{Entry}
 use Rattle.palette.specs.Cards.{pixelsOf, noEntry}
 use Rattle.palette.proofs.Triples.{pixels-bytes}
 use Rattle.making.specs.declared.Sums.{Sums}
-use Rattle.making.specs.Making.{rangeOf, sumsOf, entryBy, entriesBy, RangesLaid}
-use Rattle.making.proofs.Gathered.{SumsFew, sums-few}
+use Rattle.making.specs.Making.{rangeOf, sumsOf, SumsFew, entryBy, entriesBy, RangesLaid}
+use Rattle.making.proofs.Gathered.{sums-few}
 use Rattle.making.proofs.Laid.{next-start, part-is, part-long}
 
 pub entries-long : (codes sizes xs : List ℕ) (ps : List Pixel) → length (entriesBy codes sizes xs ps) ≡ length sizes

@@ -1,5 +1,5 @@
 -- How the code makes entries and labels from the numbers of the pixels, entry by entry. No public promise cites it. Assumes nothing.
-use Prim.Native.Nat.{ℕ, zero, suc, _/_, _%_, _≤_, _<_}
+use Prim.Native.Nat.{ℕ, zero, suc, _*_, _/_, _%_, _≤_, _<_}
 use mathlib.Core.Path.{_≡_}
 use mathlib.Core.Bool.{Bool, cond}
 use mathlib.Core.List.{List, [], _∷_, map, flatMap}
@@ -26,6 +26,16 @@ sumOf f ps xs = total (map (λ i. f (pixelAt ps i)) xs)
 
 abbrev pub sumsOf : List Pixel → List ℕ → Sums
 sumsOf ps xs = record { red = sumOf (λ p. p .red) ps xs; green = sumOf (λ p. p .green) ps xs; blue = sumOf (λ p. p .blue) ps xs }
+
+-- each channel of a pixel is a byte
+abbrev pub largestByte : ℕ
+largestByte = 255
+
+-- the sums of n pixels are no larger than n bytes come to
+pub record SumsFew (sums : Sums) (n : ℕ) : Type 0 where
+  pub red : sums .red ≤ largestByte * n
+  pub green : sums .green ≤ largestByte * n
+  pub blue : sums .blue ≤ largestByte * n
 
 -- each of the places xs gets the label k
 unfoldable pub labelled : ℕ → List ℕ → List ℕ → List ℕ

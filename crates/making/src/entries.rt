@@ -12,10 +12,10 @@ ghost use Rattle.lists.specs.Lists.{padded};
 ghost use Rattle.palette.specs.Cards.{meanBy, pixelsOf, mostEntries, noEntry};
 ghost use Rattle.palette.specs.Sound.{mostPixels};
 ghost use Rattle.dividing.specs.Sorted.{codeCount, AllBelow};
-ghost use Rattle.making.specs.Making.{sumsOf, labelled, entryBy, entriesBy, labelsBy, RangesLaid, FiguresLaid};
+ghost use Rattle.making.specs.Making.{sumsOf, largestByte, SumsFew, labelled, entryBy, entriesBy, labelsBy, RangesLaid, FiguresLaid};
 
 fn plus(sum: u32, level: u8) -> u32
-    requires { ⌜ sum ≤ 255 * mostPixels ⌝ }
+    requires { ⌜ sum ≤ largestByte * mostPixels ⌝ }
     ensures { λ r. ⌜ r ≡ sum + level ⌝ }
 {
     sum + level as u32
@@ -42,14 +42,14 @@ fn gather(pixels: &[u8], numbers: &[u16]) -> Sums
 
 // A mean, halves up.
 fn mean(total: u32, count: u32) -> u8
-    requires { ⌜ (0 < count) × (count ≤ mostPixels) × (total ≤ 255 * count) ⌝ }
+    requires { ⌜ (0 < count) × (count ≤ mostPixels) × (total ≤ largestByte * count) ⌝ }
     ensures { λ r. ⌜ r ≡ meanBy total count ⌝ }
 {
     ((2 * total + count) / (2 * count)) as u8
 }
 
 fn entry(code: u32, count: u32, sums: Sums) -> Entry
-    requires { ⌜ (code < codeCount) × (0 < count) × (count ≤ mostPixels) × (sums .red ≤ 255 * count) × (sums .green ≤ 255 * count) × (sums .blue ≤ 255 * count) ⌝ }
+    requires { ⌜ (code < codeCount) × (0 < count) × (count ≤ mostPixels) × SumsFew sums count ⌝ }
     ensures { λ r. ⌜ r ≡ entryBy code count sums ⌝ }
 {
     Entry {

@@ -23,12 +23,9 @@ Inv-loop pixels numbers codes sizes entries₀ at₀ k₀ entries at k = Made pi
 abbrev μ-loop : tie.MeasureT-loop
 μ-loop pixels numbers codes sizes entries₀ at₀ k₀ entries at k = length sizes - k
 
--- the way to the call, and the blank entries
+-- the way to the call
 abbrev entry : tie.At-loop Inv-loop μ-loop → tie.Start Inv-loop μ-loop
 entry c = c .before .before .before .before .before .before
-
-abbrev blank : tie.At-loop Inv-loop μ-loop → List Entry
-blank c = replicate 255 (c .before .no-entry .result)
 
 next : (c : tie.In-loop Inv-loop μ-loop) → c .before .loop .at + getD (entry (c .before) .args .sizes .now) (c .before .loop .k) 0 ≤ total (entry (c .before) .args .sizes .now)
 next c =
@@ -72,9 +69,9 @@ entry-requires c κs =
     let p = entry (i .before) .pre in
     let t = i .loop-test .taken in
     let g = c .before .before .gather in
-    let few = part-few (a .pixels .now) (a .numbers .now) (a .codes .now) (a .sizes .now) (length (a .pixels .now) / 3) (p .ranges) (blank (i .before)) (l .k) (l .at) (l .entries) (l .inv) t (g .result) (g .ensures)
+    let few = part-few (a .pixels .now) (a .numbers .now) (a .codes .now) (a .sizes .now) (length (a .pixels .now) / 3) (p .ranges) _ (l .k) (l .at) (l .entries) (l .inv) t (g .result) (g .ensures)
     (λ j. let known = i .before .before .before .before .before .before .shared-slice-known .given j in omega arith) in
-    (p .small (l .k) (omega (arith, p .coded)), p .filled (l .k) t, omega (arith, next i, p .many), few .red, few .green, few .blue)
+    (p .small (l .k) (omega (arith, p .coded)), p .filled (l .k) t, omega (arith, next i, p .many), few)
 
 mul-entries : tie.Need-mul-entries Inv-loop μ-loop
 unfolding mostEntries
@@ -96,7 +93,7 @@ loop-again c =
     let a = entry (i .before) .args in
     let r = entry (i .before) .pre .ranges in
     let g = c .before .before .before .gather in
-    made-more (a .pixels .now) (a .numbers .now) (a .codes .now) (a .sizes .now) (length (a .pixels .now) / 3) r (blank (i .before)) (l .k) (l .at) (l .entries) (l .inv) (i .loop-test .taken) (g .result) (g .ensures)
+    made-more (a .pixels .now) (a .numbers .now) (a .codes .now) (a .sizes .now) (length (a .pixels .now) / 3) r _ (l .k) (l .at) (l .entries) (l .inv) (i .loop-test .taken) (g .result) (g .ensures)
     (c .entry .result) (c .entry .ensures) (omega (arith, r .few))
 
 returns : tie.Need-returns Inv-loop μ-loop
@@ -106,8 +103,8 @@ returns c =
     let a = entry (c .before) .args in
     let made = entriesBy (a .codes .now) (a .sizes .now) (a .numbers .now) (pixelsOf (a .pixels .now)) in
     let long = entries-long (a .codes .now) (a .sizes .now) (a .numbers .now) (pixelsOf (a .pixels .now)) in
-    l .inv .made ∙ ap (λ (es : List Entry). over es (blank (c .before))) (take-all (l .k) made (omega (arith, c .loop-test .left)))
-    ∙ ap (λ (z : Entry). over made (replicate 255 z)) (c .before .before .no-entry .ensures) ∙ over-padded 255 noEntry made
+    l .inv .made ∙ ap (λ (es : List Entry). over es (replicate mostEntries (c .before .before .no-entry .result))) (take-all (l .k) made (omega (arith, c .loop-test .left)))
+    ∙ ap (λ (z : Entry). over made (replicate mostEntries z)) (c .before .before .no-entry .ensures) ∙ over-padded mostEntries noEntry made
 
 pub entries-of-spec : {M : Type 1} → statement M
 entries-of-spec =

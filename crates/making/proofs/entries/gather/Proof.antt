@@ -5,7 +5,8 @@ use borrow.Author.Needs.{needs}
 use lib.ListN.{length}
 use Rattle.palette.specs.Cards.{pixelsOf}
 use Rattle.palette.proofs.Triples.{pixels-bytes}
-use Rattle.making.proofs.Gathered.{SumsFew, Gathered, gathered-none, gathered-room, gathered-more, gathered-all}
+use Rattle.making.specs.Making.{SumsFew}
+use Rattle.making.proofs.Gathered.{Gathered, gathered-none, gathered-room, gathered-more, gathered-all}
 use Rattle.making.proofs.entries.gather.Statement.{statement}
 use Rattle.making.proofs.entries.gather.Tie as tie
 
