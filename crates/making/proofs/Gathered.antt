@@ -13,7 +13,7 @@ use Rattle.pixel.specs.declared.Pixel.{Pixel}
 use Rattle.pixel.specs.Ranges.{Bytes}
 use Rattle.palette.specs.Sound.{pixelAt}
 use Rattle.making.specs.declared.Sums.{Sums}
-use Rattle.making.specs.Making.{sumOf, sumsOf}
+use Rattle.making.specs.Making.{sumOf, sumsOf, largestByte, SumsFew}
 
 sum-more : (f : Pixel → ℕ) (ps : List Pixel) (xs : List ℕ) (i : ℕ) → i < length xs → sumOf f ps (take (i + 1) xs) ≡ sumOf f ps (take i xs) + f (pixelAt ps (getD xs i 0))
 unfolding sumOf
@@ -22,16 +22,10 @@ sum-more f ps xs i h =
     let k : i < length (map g xs) = omega (arith, length-map xs g) in
     ap total (sym (take-map g (i + 1) xs)) ∙ total-more (map g xs) i k ∙ ap₂ (λ (a b : ℕ). a + b) (ap total (take-map g i xs)) (map-at g xs i 0 0 h)
 
-sum-le : (f : Pixel → ℕ) (ps : List Pixel) (xs : List ℕ) → ((i : ℕ) → f (pixelAt ps i) ≤ 255) → sumOf f ps xs ≤ 255 * length xs
+sum-le : (f : Pixel → ℕ) (ps : List Pixel) (xs : List ℕ) → ((i : ℕ) → f (pixelAt ps i) ≤ largestByte) → sumOf f ps xs ≤ largestByte * length xs
 unfolding sumOf
 sum-le f ps [] h = omega arith
 sum-le f ps (x ∷ xs) h = omega (arith, h x, sum-le f ps xs h)
-
--- each sum is at most 255 for each pixel
-pub record SumsFew (sums : Sums) (n : ℕ) : Type 0 where
-  pub red : sums .red ≤ 255 * n
-  pub green : sums .green ≤ 255 * n
-  pub blue : sums .blue ≤ 255 * n
 
 pub sums-few : (ps : List Pixel) (xs : List ℕ) → ((i : ℕ) → Bytes (pixelAt ps i)) → SumsFew (sumsOf ps xs) (length xs)
 sums-few ps xs bytes = record {

@@ -8,7 +8,7 @@ use native.Mathlib.Omega.{arith}
 use lib.Dec.{eqb}
 use lib.ListN.{length, take, drop, getD, set, length-map, length-set}
 use lib.Seq.{ext-getD, take-suc, getD-set-same, getD-set-other}
-use borrow.Author.Tests.{eqb-true, eqb-false, le-leb, lt-leb}
+use borrow.Author.Tests.{eqb-true, eqb-false}
 use Rattle.lists.specs.Lists.{total, numbers, countIf, filter, firstIndex}
 use Rattle.lists.proofs.Each.{Each, each-at, each-all}
 use Rattle.lists.proofs.Counting.{count-filter, count-same, number-counted}
@@ -17,13 +17,14 @@ use Rattle.lists.proofs.Places.{map-at}
 use Rattle.pixel.specs.declared.Pixel.{Pixel}
 use Rattle.pixel.specs.Ranges.{Bytes}
 use Rattle.verdict.specs.Test.{Closeness}
-use Rattle.palette.specs.Cards.{Branch, allGreys, branches, entries, label, labels, mostEntries}
+use Rattle.palette.specs.Cards.{Branch, allGreys, branches, label, labels}
 use Rattle.palette.specs.Sound.{pixelAt}
 use Rattle.palette.proofs.OneBranch.{one-branch}
-use Rattle.palette.proofs.OneEntry.{branchAt, entries-length}
+use Rattle.palette.proofs.OneEntry.{branchAt}
 use Rattle.dividing.specs.Splitting.{numbersOf}
-use Rattle.making.specs.Making.{rangeOf, labelled, labelsBy, RangesLaid, labelsLeft}
-use Rattle.making.proofs.Laid.{BranchesLaid, next-start, part-is, below, range-at}
+use Rattle.making.specs.declared.CardEntries.{CardEntries}
+use Rattle.making.specs.Making.{rangeOf, labelled, labelsBy, RangesLaid, heldOf, fits, cardEntries, labelsLeft, PixelsLaid}
+use Rattle.making.proofs.Laid.{lengths, next-start, part-is, BranchesLaid, ranges-laid, range-at, heldBranches, held-laid, held-first}
 
 -- ---- one entry's label
 labelled-length : (k : ℕ) (xs lent : List ℕ) → length (labelled k xs lent) ≡ length lent
@@ -105,34 +106,37 @@ labels-by-length sizes xs zero lent = refl
 labels-by-length sizes xs (suc k) lent = labelled-length k (rangeOf sizes xs k) (labelsBy sizes xs k lent) ∙ labels-by-length sizes xs k lent
 
 -- after k entries
-pub record LabelsGiven (xs sizes lent : List ℕ) (n k at : ℕ) (now : List ℕ) : Type 0 where
-  pub within : k ≤ n
+pub record LabelsGiven (xs sizes lent : List ℕ) (k at : ℕ) (now : List ℕ) : Type 0 where
+  pub within : k ≤ length sizes
   pub start : at ≡ total (take k sizes)
   pub long : length now ≡ length lent
   pub given : now ≡ labelsBy sizes xs k lent
 
-pub given-more : (xs sizes lent : List ℕ) (n pixels : ℕ) → RangesLaid xs sizes n pixels → (k at : ℕ) (now : List ℕ) → LabelsGiven xs sizes lent n k at now → k < n
-    → (next : List ℕ) → next ≡ labelled k (take (at + getD sizes k 0 - at) (drop at xs)) now → LabelsGiven xs sizes lent n (k + 1) (at + getD sizes k 0) next
+pub given-more : (xs sizes lent : List ℕ) (pixels : ℕ) → RangesLaid xs sizes pixels → (k at : ℕ) (now : List ℕ) → LabelsGiven xs sizes lent k at now → k < length sizes
+    → (next : List ℕ) → next ≡ labelled k (take (at + getD sizes k 0 - at) (drop at xs)) now → LabelsGiven xs sizes lent (k + 1) (at + getD sizes k 0) next
 unfolding labelsBy
-given-more xs sizes lent n pixels r k at now g more next q = record {
+given-more xs sizes lent pixels r k at now g more next q = record {
   within = omega arith;
-  start = next-start xs sizes n pixels r k at (g .start) more;
+  start = next-start xs sizes pixels r k at (g .start) more;
   long = ap length q ∙ labelled-length k _ now ∙ g .long;
-  given = q ∙ ap₂ (labelled k) (part-is xs sizes n pixels r k at (g .start) more) (g .given) ∙ ap (λ (j : ℕ). labelsBy sizes xs j lent) (sym (add-one k));
+  given = q ∙ ap₂ (labelled k) (part-is xs sizes pixels r k at (g .start) more) (g .given) ∙ ap (λ (j : ℕ). labelsBy sizes xs j lent) (sym (add-one k));
 }
 
 -- ---- the labels of all entries
-module _ (e : Closeness) (ps : List Pixel) (bytes : Each Bytes ps) (xs rest sizes : List ℕ) (n : ℕ) (d : BranchesLaid e ps xs rest sizes n) (lent : List ℕ) (same : length lent ≡ length ps) where
+module _ (e : Closeness) (ps : List Pixel) (bytes : Each Bytes ps) (xs : List ℕ) (d : BranchesLaid ps (branches e ps) xs) (lent : List ℕ) (same : length lent ≡ length ps) where
+  abbrev sizes : List ℕ
+  sizes = lengths (numbersOf ps) (branches e ps)
+
   one : (i : ℕ) → i < length ps → countIf (λ (c : Branch). c .has (pixelAt ps i)) (branches e ps) ≡ 1
   one i l = each-at (λ p. countIf (λ (c : Branch). c .has p) (branches e ps) ≡ 1) ps (record { red = 0; green = 0; blue = 0 }) (one-branch e ps bytes) i l
 
-  label-at : (k i : ℕ) → i < length ps → k ≤ n → label e ps (pixelAt ps i) < k → getD (labelsBy sizes xs k lent) i 0 ≡ label e ps (pixelAt ps i)
+  label-at : (k i : ℕ) → i < length ps → k ≤ length (branches e ps) → label e ps (pixelAt ps i) < k → getD (labelsBy sizes xs k lent) i 0 ≡ label e ps (pixelAt ps i)
   unfolding labelsBy label
   label-at zero i l m h = absurd (omega arith)
   label-at (suc k) i l m h =
       let has : Branch → Bool = λ b. b .has (pixelAt ps i) in
-      let here = passes-at-first has (branches e ps) allGreys (one i l) k (below e ps xs rest sizes n d k (omega arith)) in
-      ap (λ (z : List ℕ). getD (labelled k z (labelsBy sizes xs k lent)) i 0) (range-at e ps xs rest sizes n d k (omega arith))
+      let here = passes-at-first has (branches e ps) allGreys (one i l) k (omega arith) in
+      ap (λ (z : List ℕ). getD (labelled k z (labelsBy sizes xs k lent)) i 0) (range-at ps (branches e ps) xs d k (omega arith))
       ∙ branch-labelled ps (branchAt e ps k) k (labelsBy sizes xs k lent) i (labels-by-length sizes xs k lent ∙ same) l
       ∙ go (eqb k j) refl here (λ o. label-at k i l (omega arith) o)
     where
@@ -144,20 +148,29 @@ module _ (e : Closeness) (ps : List Pixel) (bytes : Each Bytes ps) (xs rest size
       go true q p rest = rw (p ∙ q) (eqb-true k j q)
       go false q p rest = rw (p ∙ q) (rest (let apart = eqb-false k j q in omega arith))
 
-  labels-are : labelsBy sizes xs n lent ≡ labels e ps
+  labels-are : labelsBy sizes xs (length (branches e ps)) lent ≡ labels e ps
   unfolding labels label
   labels-are =
-      ext-getD 0 (labelsBy sizes xs n lent) (labels e ps) (labels-by-length sizes xs n lent ∙ same ∙ sym (length-map ps (label e ps))) (λ i u.
-      let l : i < length ps = omega (arith, labels-by-length sizes xs n lent) in
+      ext-getD 0 (labelsBy sizes xs (length (branches e ps)) lent) (labels e ps) (labels-by-length sizes xs (length (branches e ps)) lent ∙ same ∙ sym (length-map ps (label e ps))) (λ i u.
+      let l : i < length ps = omega (arith, labels-by-length sizes xs (length (branches e ps)) lent) in
       let only = one i l in
-      label-at n i l (omega arith) (omega (arith, d .count, first-below (λ (c : Branch). c .has (pixelAt ps i)) (branches e ps) (omega arith)))
+      label-at (length (branches e ps)) i l (omega arith) (omega (arith, first-below (λ (c : Branch). c .has (pixelAt ps i)) (branches e ps) (omega arith)))
       ∙ sym (map-at (label e ps) ps i (record { red = 0; green = 0; blue = 0 }) 0 l))
 
-  -- they are left where a card may hold them
-  pub labels-left : n ≤ mostEntries → labelsBy sizes xs n lent ≡ labelsLeft e ps lent
-  unfolding labelsLeft
-  labels-left few = rw (le-leb (length (entries e ps)) mostEntries (omega (arith, d .count, entries-length e ps))) labels-are
+-- ---- the labels of the entries that a card holds: what writing them needs, and that they are left as they should be
+module _ (e : Closeness) (ps : List Pixel) (xs sizes : List ℕ) (d : PixelsLaid e ps xs sizes) (r : CardEntries) (q : r ≡ cardEntries e ps) where
+  sized : take (heldOf (r .total)) sizes ≡ lengths (numbersOf ps) (heldBranches e ps)
+  unfolding cardEntries
+  sized = held-first e ps (λ b. length (numbersOf ps b)) sizes (d .counted) (r .total) (ap (λ (s : CardEntries). s .total) q)
 
-pub labels-kept : (e : Closeness) (ps : List Pixel) (lent : List ℕ) → mostEntries < length (entries e ps) → lent ≡ labelsLeft e ps lent
-unfolding labelsLeft
-labels-kept e ps lent many = rw (lt-leb (length (entries e ps)) mostEntries many) refl
+  pub labels-laid : RangesLaid xs (take (heldOf (r .total)) sizes) (length ps)
+  labels-laid = rw sized (ranges-laid ps (heldBranches e ps) xs (held-laid e ps xs sizes d))
+
+  pub labels-left : Each Bytes ps → (lent : List ℕ) → length lent ≡ length ps
+      → labelsBy (take (heldOf (r .total)) sizes) xs (length (take (heldOf (r .total)) sizes)) lent ≡ labelsLeft e ps lent
+  unfolding labelsBy labelsLeft
+  labels-left bytes lent same = rw sized (go (fits e ps) (held-laid e ps xs sizes d))
+    where
+      go : (t : Bool) → (let bs = cond t (branches e ps) [] in BranchesLaid ps bs xs → labelsBy (lengths (numbersOf ps) bs) xs (length (lengths (numbersOf ps) bs)) lent ≡ cond t (labels e ps) lent)
+      go true d = rw (length-map (branches e ps) (λ b. length (numbersOf ps b))) (labels-are e ps bytes xs d lent same)
+      go false d = refl

@@ -1,22 +1,27 @@
 -- The ranges of the entries, one after the other among the numbers. Assumes nothing.
 use Prim.Native.Nat.{ℕ, zero, suc, _+_, _-_, _≤_, _<_}
 use mathlib.Core.Path.{_≡_, refl, sym, ap, ap₂, _∙_}
+use mathlib.Core.Bool.{Bool, true, false, cond}
 use mathlib.Core.List.{List, [], _∷_, _++_, map, flatMap, append-assoc}
 use native.Mathlib.Omega.{arith}
-use lib.ListN.{length, take, drop, getD, length-append, length-drop, List·getD-append}
-use lib.Seq.{length-take-le, take-append-seam, drop-append-add, getD-take, getD-drop, take-take}
-use Rattle.lists.specs.Lists.{total}
-use Rattle.lists.proofs.Each.{Each}
+use lib.Dec.{leb}
+use lib.ListN.{length, take, drop, getD, length-map, length-append, length-take, length-drop, take-append-drop, List·getD-append}
+use lib.Seq.{length-take-le, take-length, take-append-seam, drop-append-add, getD-take, getD-drop}
+use borrow.Author.Tests.{leb-true}
+use Rattle.lists.specs.Lists.{total, numbers}
+use Rattle.lists.proofs.Cases.{by-cond}
+use Rattle.lists.proofs.Each.{Each, each-at, each-all, each-flat-map, each-number, each-filter}
 use Rattle.lists.proofs.Parts.{total-take-mono}
 use Rattle.lists.proofs.Places.{map-at}
 use Rattle.lists.proofs.Sums.{total-more}
 use Rattle.pixel.specs.declared.Pixel.{Pixel}
 use Rattle.verdict.specs.Test.{Closeness}
-use Rattle.palette.specs.Cards.{allGreys, branches, mostEntries}
-use Rattle.palette.proofs.OneEntry.{branchAt}
+use Rattle.palette.specs.Cards.{Branch, allGreys, branches, entries, mostEntries}
+use Rattle.palette.specs.Sound.{pixelAt}
+use Rattle.palette.proofs.OneEntry.{entries-length}
 use Rattle.dividing.specs.Sorted.{AllBelow}
 use Rattle.dividing.specs.Splitting.{numbersOf}
-use Rattle.making.specs.Making.{rangeOf, RangesLaid}
+use Rattle.making.specs.Making.{rangeOf, RangesLaid, heldOf, fits, PixelsLaid}
 
 -- ---- lists laid end to end
 module _ {A : Type 0} (f : A → List ℕ) where
@@ -43,12 +48,12 @@ module _ {A : Type 0} (f : A → List ℕ) where
       ∙ ap (take (length (f (getD bs k d)))) (drop-append-add (f b) (flatMap f bs ++ rest) (total (take k (lengths bs)))) ∙ flat-part bs rest k d (omega arith)
 
 -- ---- the range of entry k, which begins where those before it end
-module _ (xs sizes : List ℕ) (n pixels : ℕ) (r : RangesLaid xs sizes n pixels) (k at : ℕ) (start : at ≡ total (take k sizes)) (more : k < n) where
+module _ (xs sizes : List ℕ) (pixels : ℕ) (r : RangesLaid xs sizes pixels) (k at : ℕ) (start : at ≡ total (take k sizes)) (more : k < length sizes) where
   pub next-start : at + getD sizes k 0 ≡ total (take (k + 1) sizes)
-  next-start = ap (λ (j : ℕ). j + getD sizes k 0) start ∙ sym (total-more sizes k (omega (arith, r .sized)))
+  next-start = ap (λ (j : ℕ). j + getD sizes k 0) start ∙ sym (total-more sizes k more)
 
-  pub next-within : at + getD sizes k 0 ≤ total (take n sizes)
-  next-within = omega (arith, next-start, total-take-mono (k + 1) n sizes (omega arith))
+  pub next-within : at + getD sizes k 0 ≤ total sizes
+  next-within = omega (arith, next-start, total-take-mono (k + 1) (length sizes) sizes (omega arith), ap total (take-length sizes))
 
   pub part-is : take (at + getD sizes k 0 - at) (drop at xs) ≡ rangeOf sizes xs k
   part-is = let z : at + getD sizes k 0 - at ≡ getD sizes k 0 = omega arith in ap₂ (λ (i j : ℕ). take i (drop j xs)) z start
@@ -59,41 +64,67 @@ module _ (xs sizes : List ℕ) (n pixels : ℕ) (r : RangesLaid xs sizes n pixel
   pub part-in : AllBelow (take (at + getD sizes k 0 - at) (drop at xs)) pixels
   part-in i l = rw (getD-take (at + getD sizes k 0 - at) (drop at xs) i 0 (omega (arith, part-long)), getD-drop at xs i 0) (r .inside (at + i) (omega (arith, part-long, next-within)))
 
--- ---- the ranges are those of the branches, with more numbers after them
-pub record BranchesLaid (e : Closeness) (ps : List Pixel) (xs rest sizes : List ℕ) (n : ℕ) : Type 0 where
-  pub count : n ≡ length (branches e ps)
-  pub order : xs ≡ flatMap (numbersOf ps) (branches e ps) ++ rest
-  pub sized : take n sizes ≡ lengths (numbersOf ps) (branches e ps)
+-- ---- the ranges are those of branches, as many as a card may hold, and other numbers stand after theirs
+pub record BranchesLaid (ps : List Pixel) (bs : List Branch) (xs : List ℕ) : Type 0 where
+  pub few : length bs ≤ mostEntries
+  pub within : length (flatMap (numbersOf ps) bs) ≤ length ps
+  pub rest : List ℕ
+  pub order : xs ≡ flatMap (numbersOf ps) bs ++ rest
 
-module _ (e : Closeness) (ps : List Pixel) (xs rest sizes : List ℕ) (n : ℕ) (d : BranchesLaid e ps xs rest sizes n) where
-  pub sizes-total : total (take n sizes) ≡ length (flatMap (numbersOf ps) (branches e ps))
-  sizes-total = ap total (d .sized) ∙ flat-length (numbersOf ps) (branches e ps)
+module _ (ps : List Pixel) (bs : List Branch) (xs : List ℕ) (d : BranchesLaid ps bs xs) where
+  abbrev own : List ℕ
+  own = flatMap (numbersOf ps) bs
 
-  pub ranges-laid : (pixels : ℕ) → n ≤ mostEntries → n ≤ length sizes → AllBelow (flatMap (numbersOf ps) (branches e ps)) pixels → RangesLaid xs sizes n pixels
-  ranges-laid pixels few sized below =
-      let own = flatMap (numbersOf ps) (branches e ps) in
-      record {
-        few = few;
-        sized = sized;
-        whole = omega (arith, sizes-total, ap length (d .order), length-append own rest);
-        inside = λ i l. let k : i < length own = omega (arith, sizes-total) in rw (d .order) (rw (List·getD-append own rest 0 i k) (below i k));
-      }
+  own-in : AllBelow own (length ps)
+  unfolding numbersOf
+  own-in =
+      let P : ℕ → Type 0 = λ x. x < length ps in
+      each-at P own 0
+      (each-flat-map P (numbersOf ps) bs (each-all _ bs (λ b. each-filter P (λ i. b .has (pixelAt ps i)) (numbers 0 (length ps)) (each-number P 0 (length ps) (λ i a l. omega arith)))))
 
-  module _ (k : ℕ) (l : k < n) where
-    pub below : k < length (branches e ps)
-    below = omega (arith, d .count)
+  pub ranges-laid : RangesLaid xs (lengths (numbersOf ps) bs) (length ps)
+  ranges-laid = record {
+    few = omega (arith, d .few, length-map bs (λ b. length (numbersOf ps b)));
+    whole = omega (arith, flat-length (numbersOf ps) bs, ap length (d .order), length-append own (d .rest));
+    inside = λ i l. let k : i < length own = omega (arith, flat-length (numbersOf ps) bs) in rw (d .order) (rw (List·getD-append own (d .rest) 0 i k) (own-in i k));
+  }
 
-    pub size-at : getD sizes k 0 ≡ length (numbersOf ps (branchAt e ps k))
-    size-at = sym (getD-take n sizes k 0 l) ∙ ap (λ (z : List ℕ). getD z k 0) (d .sized) ∙ map-at (λ b. length (numbersOf ps b)) (branches e ps) k allGreys 0 below
+  -- entry k has the numbers of branch k
+  pub range-at : (k : ℕ) → k < length bs → rangeOf (lengths (numbersOf ps) bs) xs k ≡ numbersOf ps (getD bs k allGreys)
+  range-at k l =
+      ap₂ (λ (z : ℕ) (ys : List ℕ). take z (drop (total (take k (lengths (numbersOf ps) bs))) ys)) (map-at (λ b. length (numbersOf ps b)) bs k allGreys 0 l) (d .order)
+      ∙ flat-part (numbersOf ps) bs (d .rest) k allGreys l
 
-    -- entry k has the numbers of branch k
-    pub range-at : rangeOf sizes xs k ≡ numbersOf ps (branchAt e ps k)
-    range-at =
-        let before : take k sizes ≡ take k (lengths (numbersOf ps) (branches e ps)) = sym (take-take k n sizes (omega arith)) ∙ ap (take k) (d .sized) in
-        ap (λ (z : ℕ). take z (drop (total (take k sizes)) xs)) size-at
-        ∙ ap₂ (λ (z ys : List ℕ). take (length (numbersOf ps (branchAt e ps k))) (drop (total z) ys)) before (d .order)
-        ∙ flat-part (numbersOf ps) (branches e ps) rest k allGreys below
+-- ---- the branches whose entries a card holds: none where there are too many
+module _ (e : Closeness) (ps : List Pixel) where
+  abbrev pub heldBranches : List Branch
+  heldBranches = cond (fits e ps) (branches e ps) []
 
--- no range
-pub none-laid : (xs sizes : List ℕ) (pixels : ℕ) → RangesLaid xs sizes 0 pixels
-none-laid xs sizes pixels = record { few = omega arith; sized = omega arith; whole = omega arith; inside = λ i l. absurd (omega arith) }
+  all-held : fits e ps ≡ true → length (branches e ps) ≤ mostEntries
+  all-held t = omega (arith, leb-true (length (entries e ps)) mostEntries t, entries-length e ps)
+
+  pub held-laid : (xs sizes : List ℕ) → PixelsLaid e ps xs sizes → BranchesLaid ps heldBranches xs
+  unfolding flatMap
+  held-laid xs sizes d =
+      by-cond (λ (bs : List Branch). BranchesLaid ps bs xs) (fits e ps) (branches e ps) []
+      (λ t. record {
+        few = all-held t;
+        within = omega (arith, ap length (d .numbered), length-take (length ps) xs);
+        rest = drop (length ps) xs;
+        order = sym (take-append-drop (length ps) xs) ∙ ap (λ (z : List ℕ). z ++ drop (length ps) xs) (d .numbered);
+      })
+      (λ t. record { few = omega arith; within = omega arith; rest = xs; order = refl })
+
+  -- a figure of each branch stands in the first places
+  pub held-first : (f : Branch → ℕ) (zs : List ℕ) → (length (branches e ps) ≤ mostEntries → take (length (branches e ps)) zs ≡ map f (branches e ps)) → (n : ℕ) → n ≡ length (entries e ps)
+      → take (heldOf n) zs ≡ map f heldBranches
+  unfolding heldOf
+  held-first f zs first n q = rw q (go (fits e ps) refl)
+    where
+      go : (t : Bool) → fits e ps ≡ t → take (cond t (length (entries e ps)) 0) zs ≡ map f (cond t (branches e ps) [])
+      go true t = rw (entries-length e ps) (first (all-held t))
+      go false t = refl
+
+pub held-few : (n : ℕ) → heldOf n ≤ mostEntries
+unfolding heldOf
+held-few n = by-cond (λ (k : ℕ). k ≤ mostEntries) (leb n mostEntries) n 0 (λ t. leb-true n mostEntries t) (λ t. omega arith)

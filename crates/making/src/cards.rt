@@ -11,7 +11,7 @@ ghost use lib.ListN.{length};
 ghost use Rattle.verdict.specs.Test.{mostCloseness};
 ghost use Rattle.palette.specs.Cards.{pixelsOf, mostEntries};
 ghost use Rattle.palette.specs.Sound.{mostPixels};
-ghost use Rattle.making.specs.Making.{heldOf, LabelsLaid, cardEntries, labelsLeft};
+ghost use Rattle.making.specs.Making.{heldOf, PixelsLaid, cardEntries, labelsLeft};
 
 // How many entries a card holds: none where they are too many, so that no entry is made and no label written.
 fn held(total: usize) -> usize
@@ -20,7 +20,7 @@ fn held(total: usize) -> usize
     if MOST_ENTRIES < total { 0 } else { total }
 }
 
-// The entries, in lent scratch with a place or more for each pixel. The pixels' numbers are left in `order`, entry by entry, and each entry's count in `sizes`.
+// The entries, in lent scratch with a place or more for each pixel. The pixels' numbers are left in `order`, entry by entry, and each entry's count in `sizes` where a card may hold all entries.
 pub fn make_entries(
     pixels: &[u8],
     closeness: u32,
@@ -34,7 +34,7 @@ pub fn make_entries(
     requires { ⌜ (length (now pixels) / 3 ≤ length (now order)) × (length (now pixels) / 3 ≤ length (now other)) × (length (now pixels) / 3 ≤ length (now keys))
         × (length (now codes) ≡ mostEntries) × (length (now sizes) ≡ mostEntries) ⌝ }
     ensures { λ r. ⌜ (r ≡ cardEntries closeness (pixelsOf (now (pixels .entry))))
-        × LabelsLaid closeness (pixelsOf (now (pixels .entry))) (now (order .exit)) (now (sizes .exit)) (heldOf (r .total)) ⌝ }
+        × PixelsLaid closeness (pixelsOf (now (pixels .entry))) (now (order .exit)) (now (sizes .exit)) ⌝ }
 {
     let n = pixels.len() / 3;
     let total = divide_pixels(
@@ -46,9 +46,10 @@ pub fn make_entries(
         codes,
         sizes,
     );
+    let kept = held(total);
     CardEntries {
         total: total as u32,
-        entries: entries_of(pixels, order, codes, sizes, held(total)),
+        entries: entries_of(pixels, order, &codes[..kept], &sizes[..kept]),
     }
 }
 
@@ -72,6 +73,6 @@ pub fn make_card(pixels: &[u8], closeness: u32, labels: &mut [u8]) -> CardEntrie
         &mut codes,
         &mut sizes,
     );
-    write_labels(&order, &sizes, held(made.total as usize), labels);
+    write_labels(&order, &sizes[..held(made.total as usize)], labels);
     made
 }

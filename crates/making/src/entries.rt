@@ -9,13 +9,13 @@ ghost use mathlib.Core.Path.{_≡_};
 ghost use Prim.Native.Nat.{_≤_, _<_, _*_, _+_, _/_};
 ghost use lib.ListN.{length};
 ghost use Rattle.lists.specs.Lists.{padded};
-ghost use Rattle.palette.specs.Cards.{pixelsOf, mostEntries, noEntry};
+ghost use Rattle.palette.specs.Cards.{meanBy, pixelsOf, mostEntries, noEntry};
 ghost use Rattle.palette.specs.Sound.{mostPixels};
 ghost use Rattle.dividing.specs.Sorted.{codeCount, AllBelow};
-ghost use Rattle.making.specs.Making.{sumsOf, labelled, meanBy, entryBy, entriesBy, labelsBy, RangesLaid, FiguresLaid};
+ghost use Rattle.making.specs.Making.{sumsOf, largestByte, SumsFew, labelled, entryBy, entriesBy, labelsBy, RangesLaid, FiguresLaid};
 
 fn plus(sum: u32, level: u8) -> u32
-    requires { ⌜ sum ≤ 255 * mostPixels ⌝ }
+    requires { ⌜ sum ≤ largestByte * mostPixels ⌝ }
     ensures { λ r. ⌜ r ≡ sum + level ⌝ }
 {
     sum + level as u32
@@ -42,14 +42,14 @@ fn gather(pixels: &[u8], numbers: &[u16]) -> Sums
 
 // A mean, halves up.
 fn mean(total: u32, count: u32) -> u8
-    requires { ⌜ (0 < count) × (count ≤ mostPixels) × (total ≤ 255 * count) ⌝ }
+    requires { ⌜ (0 < count) × (count ≤ mostPixels) × (total ≤ largestByte * count) ⌝ }
     ensures { λ r. ⌜ r ≡ meanBy total count ⌝ }
 {
     ((2 * total + count) / (2 * count)) as u8
 }
 
 fn entry(code: u32, count: u32, sums: Sums) -> Entry
-    requires { ⌜ (code < codeCount) × (0 < count) × (count ≤ mostPixels) × (sums .red ≤ 255 * count) × (sums .green ≤ 255 * count) × (sums .blue ≤ 255 * count) ⌝ }
+    requires { ⌜ (code < codeCount) × (0 < count) × (count ≤ mostPixels) × SumsFew sums count ⌝ }
     ensures { λ r. ⌜ r ≡ entryBy code count sums ⌝ }
 {
     Entry {
@@ -64,21 +64,20 @@ fn entry(code: u32, count: u32, sums: Sums) -> Entry
     }
 }
 
-// The n entries, each of the next of the numbers, as many as its size says.
+// An entry for each size, of the next of the numbers, as many as the size says.
 pub fn entries_of(
     pixels: &[u8],
     numbers: &[u16],
     codes: &[u32],
     sizes: &[u32],
-    n: usize,
 ) -> [Entry; MOST_ENTRIES]
-    requires { ⌜ FiguresLaid (now pixels) (now numbers) (now codes) (now sizes) n ⌝ }
-    ensures { λ r. ⌜ r ≡ padded mostEntries noEntry (entriesBy n (now (codes .entry)) (now (sizes .entry)) (now (numbers .entry)) (pixelsOf (now (pixels .entry)))) ⌝ }
+    requires { ⌜ FiguresLaid (now pixels) (now numbers) (now codes) (now sizes) ⌝ }
+    ensures { λ r. ⌜ r ≡ padded mostEntries noEntry (entriesBy (now (codes .entry)) (now (sizes .entry)) (now (numbers .entry)) (pixelsOf (now (pixels .entry)))) ⌝ }
 {
     let mut entries = [no_entry(); MOST_ENTRIES];
     let mut at = 0;
     let mut k = 0;
-    while k < n {
+    while k < sizes.len() {
         let end = at + sizes[k] as usize;
         let sums = gather(pixels, &numbers[at..end]);
         entries[k] = entry(codes[k], sizes[k], sums);
@@ -100,14 +99,14 @@ fn label_range(numbers: &[u16], label: u8, labels: &mut [u8])
     }
 }
 
-// Each of the n entries labels the next of the numbers, as many as its size says.
-pub fn write_labels(numbers: &[u16], sizes: &[u32], n: usize, labels: &mut [u8])
-    requires { ⌜ RangesLaid (now numbers) (now sizes) n (length (now labels)) ⌝ }
-    ensures { λ _. ⌜ now (labels .exit) ≡ labelsBy (now (sizes .entry)) (now (numbers .entry)) n (now (labels .entry)) ⌝ }
+// Each entry labels the next of the numbers, as many as its size says.
+pub fn write_labels(numbers: &[u16], sizes: &[u32], labels: &mut [u8])
+    requires { ⌜ RangesLaid (now numbers) (now sizes) (length (now labels)) ⌝ }
+    ensures { λ _. ⌜ now (labels .exit) ≡ labelsBy (now (sizes .entry)) (now (numbers .entry)) (length (now (sizes .entry))) (now (labels .entry)) ⌝ }
 {
     let mut at = 0;
     let mut k = 0;
-    while k < n {
+    while k < sizes.len() {
         let end = at + sizes[k] as usize;
         label_range(&numbers[at..end], k as u8, labels);
         at = end;

@@ -14,7 +14,7 @@ use Rattle.pixel.specs.declared.Pixel.{Pixel}
 use Rattle.pixel.specs.Ranges.{Bytes}
 use Rattle.verdict.specs.Test.{Closeness}
 use Rattle.palette.specs.Levels.{Level, hue, saturation, intensity, greyLevels, colourLevels, binCount}
-use Rattle.palette.specs.Cards.{Branch, allGreys, allColours, members, meanOf, entryOf, modesFound, child, divide, divideSome, branches}
+use Rattle.palette.specs.Cards.{Branch, allGreys, allColours, members, meanBy, meanOf, entryOf, modesFound, child, divide, divideSome, branches}
 use Rattle.palette.specs.Figures.{EntryBounds, FiguresBounded}
 use Rattle.palette.proofs.FewModes.{mostModes, found-few}
 use Rattle.palette.proofs.OneEntry.{branchAt, entries-length, entry-at}
@@ -25,7 +25,7 @@ total-bytes [] h = omega arith
 total-bytes (x ∷ xs) h = omega (arith, h .0, total-bytes xs (h .1))
 
 mean-byte : (xs : List ℕ) → Each (λ x. x < 256) xs → meanOf xs < 256
-unfolding meanOf
+unfolding meanBy meanOf
 mean-byte [] h = omega (arith, div-zero 0)
 mean-byte (x ∷ xs) h = div-lt-iff-lt-mul {k = 2 * suc (length xs)} (omega arith) .1 (omega (arith, total-bytes (x ∷ xs) h))
 

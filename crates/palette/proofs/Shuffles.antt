@@ -1,5 +1,5 @@
 -- Shuffled pixels have the same card: every count and every sum over them is the same, and the card depends on nothing else. Assumes nothing.
-use Prim.Native.Nat.{ℕ, _+_, _*_, _/_}
+use Prim.Native.Nat.{ℕ}
 use mathlib.Core.Path.{_≡_, refl, sym, ap, ap₂, fun-ext, _∙_}
 use mathlib.Core.Bool.{Bool, cond, _&&_}
 use mathlib.Core.List.{List, [], _∷_, _++_, map, flatMap}
@@ -11,7 +11,7 @@ use Rattle.lists.proofs.Counting.{count-total, filter-count, count-filter, filt
 use Rattle.pixel.specs.declared.Pixel.{Pixel}
 use Rattle.verdict.specs.Test.{Closeness}
 use Rattle.palette.specs.Levels.{Level, hue, saturation, intensity, greyLevels, colourLevels, binCount, binOf, histogram, modesAt, liesIn}
-use Rattle.palette.specs.Cards.{Branch, allGreys, allColours, members, histogramIn, meanOf, entryOf, modesFound, inChild, child, divide, divideSome, branches, entries, label, labels}
+use Rattle.palette.specs.Cards.{Branch, allGreys, allColours, members, histogramIn, meanBy, meanOf, entryOf, modesFound, inChild, child, divide, divideSome, branches, entries, label, labels}
 use Rattle.palette.specs.Laws.{Shuffle, none, keep, swap, chain, ShuffleKeeps}
 use Rattle.palette.specs.declared.Entry.{Entry}
 
@@ -41,7 +41,7 @@ module _ (ps qs : List Pixel) (s : Shuffle ps qs) where
   mean-same : (f : Pixel → ℕ) (b : Branch) → meanOf (map f (members ps b)) ≡ meanOf (map f (members qs b))
   unfolding meanOf members
   mean-same f b =
-      ap₂ (λ (t n : ℕ). (2 * t + n) / (2 * n))
+      ap₂ meanBy
       (filter-total (b .has) f ps ∙ shuffle-total s (λ p. cond (b .has p) (f p) 0) ∙ sym (filter-total (b .has) f qs))
       (length-map (members ps b) f ∙ members-same b ∙ sym (length-map (members qs b) f))
 

@@ -36,9 +36,12 @@ members ps b = filter (b .has) ps
 unfoldable pub histogramIn : List Pixel → Level → Branch → List ℕ
 histogramIn ps l b = histogram l (members ps b)
 
--- C6: a mean, with halves rounded up
+-- C6: a mean from a sum and a count, with halves rounded up
+unfoldable pub meanBy : ℕ → ℕ → ℕ
+meanBy sum count = (2 * sum + count) / (2 * count)
+
 unfoldable pub meanOf : List ℕ → ℕ
-meanOf xs = (2 * total xs + length xs) / (2 * length xs)
+meanOf xs = meanBy (total xs) (length xs)
 
 -- C5: the entry of a branch
 unfoldable pub entryOf : List Pixel → Branch → Entry

@@ -7,7 +7,7 @@ use Rattle.segmentation.specs.Segments.{risesAbove, isValley, firstSeparators, 
 use Rattle.segmentation.specs.Joining.{nextJoin, joinAll, lineModes}
 use Rattle.segmentation.specs.Ring.{opening, opened, linePlace, ringModes, inRingMode}
 use Rattle.palette.specs.Levels.{histogram}
-use Rattle.palette.specs.Cards.{members, histogramIn, meanOf, entryOf, modesFound, inChild, child, divide, divideSome, branches, entries, mostEntries, pixelsOf}
+use Rattle.palette.specs.Cards.{members, histogramIn, meanBy, meanOf, entryOf, modesFound, inChild, child, divide, divideSome, branches, entries, mostEntries, pixelsOf}
 use Rattle.swatch.specs.Input.{linesOf, afterSpaces, decimal, numeral, field, pieces, fieldsOf, headerOf, sizeOf, pixelLine, pixelBytes, bytesOf}
 use Rattle.swatch.specs.Reading.{mostSwatchPixels}
 use Rattle.swatch.specs.Output.{printedIn, lineIn, printedEntry, printedCard}
@@ -16,5 +16,5 @@ use Rattle.kistrovu.specs.Answers.{printed}
 use Rattle.samples.specs.Printed.{PrintsItsCard}
 
 pub prints-its-card : PrintsItsCard
-unfolding flatMap part numbers filter countIf all firstThat firstIndex largestThat firstLowest largest whole intensityBin chromaSquared saturationOf saturationBin isGrey tangents huePoint quarter turnedBack turnedOf tangentsPassed hueAt hueOf hueBin risesAbove isValley firstSeparators firstHighest segmentsFrom firstSegments inMode nextJoin joinAll lineModes opening opened linePlace ringModes inRingMode histogram members histogramIn meanOf entryOf modesFound inChild child divide divideSome branches entries mostEntries pixelsOf linesOf afterSpaces decimal numeral field pieces fieldsOf headerOf sizeOf pixelLine pixelBytes bytesOf mostSwatchPixels printedIn lineIn printedEntry printedCard firstGround programCloseness textNumber printed
+unfolding flatMap part numbers filter countIf all firstThat firstIndex largestThat firstLowest largest whole intensityBin chromaSquared saturationOf saturationBin isGrey tangents huePoint quarter turnedBack turnedOf tangentsPassed hueAt hueOf hueBin risesAbove isValley firstSeparators firstHighest segmentsFrom firstSegments inMode nextJoin joinAll lineModes opening opened linePlace ringModes inRingMode histogram members histogramIn meanBy meanOf entryOf modesFound inChild child divide divideSome branches entries mostEntries pixelsOf linesOf afterSpaces decimal numeral field pieces fieldsOf headerOf sizeOf pixelLine pixelBytes bytesOf mostSwatchPixels printedIn lineIn printedEntry printedCard firstGround programCloseness textNumber printed
 prints-its-card = refl

@@ -9,11 +9,11 @@ use Rattle.making.proofs.cards.held.Tie as tie
 
 returns : tie.Need-returns
 unfolding heldOf mostEntries
-returns c = rw (lt-leb (c .before .args .total) 255 (omega arith)) refl
+returns c = rw (lt-leb (c .before .args .total) mostEntries (omega arith)) refl
 
 returns-2 : tie.Need-returns-2
 unfolding heldOf mostEntries
-returns-2 c = rw (le-leb (c .before .args .total) 255 (omega arith)) refl
+returns-2 c = rw (le-leb (c .before .args .total) mostEntries (omega arith)) refl
 
 pub held-spec : {M : Type 1} → statement M
 held-spec = tie.close (tie.spec returns returns-2)

@@ -1,11 +1,16 @@
 -- `make_card` meets its contract: it makes the scratch and lends it. Assumes nothing.
-use Prim.Native.Nat.{ℕ}
-use mathlib.Core.Path.{refl, sym, _∙_}
+use Prim.Native.Nat.{ℕ, _≤_}
+use mathlib.Core.Path.{_≡_, refl, sym, _∙_}
+use mathlib.Core.List.{List}
 use native.Mathlib.Omega.{arith}
 use lib.ListN.{length, length-replicate}
-use Rattle.palette.specs.Cards.{mostEntries}
+use lib.Seq.{length-take-le}
+use Rattle.palette.specs.Cards.{mostEntries, pixelsOf}
 use Rattle.palette.specs.Sound.{mostPixels}
 use Rattle.palette.proofs.Triples.{pixels-length}
+use Rattle.making.proofs.Divided.{bytes-each}
+use Rattle.making.proofs.Laid.{held-few}
+use Rattle.making.proofs.Labelled.{labels-laid, labels-left}
 use borrow.Author.Needs.{needs}
 use Rattle.making.proofs.cards.make_card.Statement.{statement}
 use Rattle.making.proofs.cards.make_card.Tie as tie
@@ -17,21 +22,36 @@ make-entries-requires c κs =
     let wide = length-replicate {A = ℕ} mostPixels 0 in
     ((omega (arith, p .0), omega (arith, p .0, p .1), p .2), (omega (arith, p .0, p .1), omega (arith, p .0, p .1), omega (arith, p .0, p .1), refl, refl))
 
-held-requires : tie.Need-held-requires
-held-requires c κs = search needs
+-- the way to the entries, and to the call
+abbrev made : tie.After-held → tie.After-make-entries
+made h = h .before .before .before .before .before .before .before .before
+
+abbrev entry : tie.After-held → tie.Start
+entry h = made h .before .before .before .before .before .before .before .before
+
+long : (h : tie.After-held) → length (pixelsOf (entry h .args .pixels .now)) ≡ length (entry h .args .labels .now)
+long h = pixels-length (entry h .args .pixels .now) (length (entry h .args .labels .now)) (entry h .pre .0)
+
+abbrev sizes : tie.After-held → List ℕ
+sizes h = made h .make-entries .last .1 .1 .1 .1 .1 .1 .0
+
+room : (h : tie.After-held) → h .held .result ≤ length (sizes h)
+unfolding mostEntries
+room h = omega (arith, h .held .ensures, held-few (made h .make-entries .result .total), made h .make-entries .kept .1 .1 .1 .1 .1 .1 .0)
 
 write-labels-requires : tie.Need-write-labels-requires
 write-labels-requires c κs =
-    let s = c .before .before .before .before .before .before .before .before .before .before .before .before .before .before .before .before .before .before in
-    let long = pixels-length (s .args .pixels .now) (length (s .args .labels .now)) (s .pre .0) in
-    rw (c .before .held .ensures, sym long) (c .before .before .before .before .before .before .before .before .before .before .make-entries .ensures .1 .ranges)
+    let h = c .before .before in
+    let m = made h .make-entries in
+    rw (h .held .ensures, sym (long h)) (labels-laid _ _ _ _ (m .ensures .1) _ (m .ensures .0))
 
 returns : tie.Need-returns
 returns c =
-    let s = c .before .before .before .before .before .before .before .before .before .before .before .before .before .before .before .before .before .before .before .before .before in
-    let m = c .before .before .before .before .before .before .before .before .before .before .before .before .before .make-entries in
-    let long = pixels-length (s .args .pixels .now) (length (s .args .labels .now)) (s .pre .0) in
-    (m .ensures .0, rw (c .before .before .before .before .held .ensures) at (c .before .before .write-labels .ensures) ∙ m .ensures .1 .given (s .args .labels .now) (sym long))
+    let h = c .before .before .before .before .before in
+    let m = made h .make-entries in
+    let bytes = bytes-each (entry h .args .pixels .now) (λ j. let known = made h .before .before .before .before .before .before .before .shared-slice-known .given j in omega arith) in
+    let left = labels-left _ _ _ _ (m .ensures .1) _ (m .ensures .0) bytes (entry h .args .labels .now) (sym (long h)) in
+    (m .ensures .0, rw (h .held .ensures) at (c .before .before .write-labels .ensures) ∙ left)
 
 pub make-card-spec : {M : Type 1} → statement M
 make-card-spec =
@@ -45,8 +65,9 @@ make-card-spec =
     make-entries-requires
     (λ c. search needs)
     (λ c. search needs)
-    (λ c. search needs)
-    held-requires
+    (λ c κs. search needs)
+    room
+    (λ c. sym (length-take-le _ (sizes (c .before)) (room (c .before))))
     write-labels-requires
     (λ c. search needs)
     returns)

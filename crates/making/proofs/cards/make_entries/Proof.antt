@@ -1,12 +1,15 @@
 -- `make_entries` meets its contract. Assumes nothing.
-use Prim.Native.Nat.{ℕ, _*_, _/_, _<_}
+use Prim.Native.Nat.{ℕ, _*_, _/_, _≤_, _<_}
 use mathlib.Core.Path.{_≡_, refl, sym, ap, _∙_}
-use mathlib.Core.List.{List}
+use mathlib.Core.List.{List, _++_}
 use native.Mathlib.Omega.{arith}
 use lib.ListN.{length, drop, getD}
 use lib.Seq.{length-take-le}
+use Rattle.palette.specs.Cards.{pixelsOf}
 use Rattle.palette.specs.Sound.{mostPixels}
-use Rattle.making.proofs.Divided.{divided-few, figures-laid, labels-laid, card-made}
+use Rattle.palette.proofs.Triples.{pixels-length}
+use Rattle.making.proofs.Laid.{held-few}
+use Rattle.making.proofs.Divided.{FiguresLeft, divided-left, divided-few, figures-laid, card-made}
 use borrow.Author.Needs.{needs}
 use Rattle.making.proofs.cards.make_entries.Statement.{statement}
 use Rattle.making.proofs.cards.make_entries.Tie as tie
@@ -54,39 +57,39 @@ divide-pixels-requires c κs =
     let z = length-take-le (many s) (s .args .keys .now) (p .1 .2) in
     (p .0 .0 ∙ ap (λ (k : ℕ). 3 * k) (sym x), x ∙ sym y, z ∙ sym x, omega (arith, x, p .0 .0, p .0 .1), p .0 .2)
 
-cast-t21 : tie.Need-cast-t21
-unfolding mostPixels
-cast-t21 c =
-    let m = c .before .before .before .before .before .before .before .before .before .before in
-    let a = entry m .args in
+-- how the division leaves the lists
+left : (m : tie.After-divide-pixels) → FiguresLeft (entry m .args .closeness) (pixelsOf (entry m .args .pixels .now)) (numbers m ++ rest m) (codes m) (sizes m) (m .divide-pixels .result)
+left m =
     let p = entry m .pre in
-    let d = m .divide-pixels in
-    omega (arith, divided-few (a .pixels .now) (byte m) (p .0 .0) (a .closeness) (a .codes .now) (a .sizes .now) (codes m) (sizes m) (numbers m) (rest m) (d .result) (d .ensures), long m, p .0 .0, p .0 .1)
+    divided-left _ _ _ _ _ _ _ (rest m) _ (m .divide-pixels .ensures) (p .1 .3) (p .1 .4) (long m ∙ sym (pixels-length (entry m .args .pixels .now) (many (entry m)) (p .0 .0)))
 
-held-requires : tie.Need-held-requires
-held-requires c κs = search needs
+-- the way to the division, and room for the entries that a card holds
+abbrev divided : tie.After-held → tie.After-divide-pixels
+divided h = h .before .before .before .before .before .before .before .before .before .before .before
+
+room : (h : tie.After-held) → (h .held .result ≤ length (codes (divided h))) × (h .held .result ≤ length (sizes (divided h)))
+room h =
+    let few = held-few (divided h .divide-pixels .result) in
+    let lists = divided h .divide-pixels .kept .1 .1 .1 .1 .1 in
+    let p = entry (divided h) .pre .1 in
+    (omega (arith, h .held .ensures, lists .0, p .3), omega (arith, h .held .ensures, lists .1 .0, p .4))
+
+cast-t22 : tie.Need-cast-t22
+unfolding mostPixels
+cast-t22 c = let p = entry (divided c) .pre .0 in omega (arith, divided-few _ (byte (divided c)) (p .0) _ _ _ _ _ (left (divided c)), p .1)
 
 entries-of-requires : tie.Need-entries-of-requires
 entries-of-requires c κs =
-    let m = c .before .before .before .before .before .before .before .before .before .before .before .before .before .before in
-    let a = entry m .args in
-    let p = entry m .pre in
-    let d = m .divide-pixels in
-    rw (c .held .ensures) (figures-laid (a .pixels .now) (byte m) (p .0 .0) (a .closeness) (a .codes .now) (a .sizes .now) (codes m) (sizes m) (numbers m) (rest m) (d .result) (d .ensures)
-    (p .1 .3) (p .1 .4) (d .kept .1 .1 .1 .1 .1 .0 ∙ p .1 .3) (d .kept .1 .1 .1 .1 .1 .1 .0 ∙ p .1 .4) (omega (arith, long m, p .0 .0, p .0 .1)))
+    let h = c .before .before .before in
+    let m = divided h in
+    rw (h .held .ensures) (figures-laid _ (byte m) (entry m .pre .0 .0) _ _ _ _ _ (left m) (entry m .pre .0 .1))
 
 returns : tie.Need-returns
 returns c =
-    let m = c .before .before .before .before .before .before .before .before .before .before .before .before .before .before .before in
-    let a = entry m .args in
-    let p = entry m .pre in
-    let d = m .divide-pixels in
-    let made = rw (c .before .held .ensures) at (c .entries-of .ensures) in (
-      card-made (a .pixels .now) (byte m) (p .0 .0) (a .closeness) (a .codes .now) (a .sizes .now) (codes m) (sizes m) (numbers m) (rest m) (d .result) (d .ensures)
-          (p .1 .3) (p .1 .4) (d .kept .1 .1 .1 .1 .1 .0 ∙ p .1 .3) (d .kept .1 .1 .1 .1 .1 .1 .0 ∙ p .1 .4) _ refl made,
-      labels-laid (a .pixels .now) (byte m) (p .0 .0) (a .closeness) (a .codes .now) (a .sizes .now) (codes m) (sizes m) (numbers m) (rest m) (d .result) (d .ensures)
-          (p .1 .3) (p .1 .4) (d .kept .1 .1 .1 .1 .1 .0 ∙ p .1 .3) (d .kept .1 .1 .1 .1 .1 .1 .0 ∙ p .1 .4),
-    )
+    let h = c .before .before .before .before in
+    let m = divided h in
+    let made = rw (h .held .ensures) at (c .entries-of .ensures) in
+    (card-made _ (byte m) (entry m .pre .0 .0) _ _ _ _ _ (left m) _ refl made, left m .laid)
 
 pub make-entries-spec : {M : Type 1} → statement M
 make-entries-spec =
@@ -99,8 +102,12 @@ make-entries-spec =
     (λ c. search needs)
     slice-aggregate-divide-pixels-3
     divide-pixels-requires
-    cast-t21
-    held-requires
+    (λ c κs. search needs)
+    cast-t22
+    (λ c. room (c .before) .0)
+    (λ c. sym (length-take-le _ _ (room (c .before .before) .0)))
+    (λ c. room (c .before .before) .1)
+    (λ c. sym (length-take-le _ _ (room (c .before .before .before) .1)))
     entries-of-requires
     (λ c. search needs)
     (λ c. search needs)

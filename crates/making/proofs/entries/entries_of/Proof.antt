@@ -4,7 +4,7 @@ use mathlib.Core.Path.{refl, sym, ap, _∙_}
 use mathlib.Core.List.{List}
 use native.Mathlib.Omega.{arith}
 use borrow.Author.Needs.{needs}
-use lib.ListN.{length, take, getD, replicate}
+use lib.ListN.{length, getD, replicate}
 use lib.Seq.{take-all}
 use Rattle.lists.specs.Lists.{total, over}
 use Rattle.lists.proofs.Buffers.{over-none, over-padded}
@@ -18,26 +18,20 @@ use Rattle.making.proofs.entries.entries_of.Statement.{statement}
 use Rattle.making.proofs.entries.entries_of.Tie as tie
 
 abbrev Inv-loop : tie.InvT-loop
-Inv-loop pixels numbers codes sizes n entries₀ at₀ k₀ entries at k = Made pixels numbers codes sizes n entries₀ k at entries
+Inv-loop pixels numbers codes sizes entries₀ at₀ k₀ entries at k = Made pixels numbers codes sizes entries₀ k at entries
 
 abbrev μ-loop : tie.MeasureT-loop
-μ-loop pixels numbers codes sizes n entries₀ at₀ k₀ entries at k = n - k
+μ-loop pixels numbers codes sizes entries₀ at₀ k₀ entries at k = length sizes - k
 
--- the way to the call, and the blank entries
+-- the way to the call
 abbrev entry : tie.At-loop Inv-loop μ-loop → tie.Start Inv-loop μ-loop
 entry c = c .before .before .before .before .before .before
 
-abbrev blank : tie.At-loop Inv-loop μ-loop → List Entry
-blank c = replicate 255 (c .before .no-entry .result)
-
-next : (c : tie.In-loop Inv-loop μ-loop) → c .before .loop .at + getD (entry (c .before) .args .sizes .now) (c .before .loop .k) 0 ≤ total (take (entry (c .before) .args .n) (entry (c .before) .args .sizes .now))
+next : (c : tie.In-loop Inv-loop μ-loop) → c .before .loop .at + getD (entry (c .before) .args .sizes .now) (c .before .loop .k) 0 ≤ total (entry (c .before) .args .sizes .now)
 next c =
     let l = c .before .loop in
     let a = entry (c .before) .args in
-    next-within (a .numbers .now) (a .sizes .now) (a .n) (length (a .pixels .now) / 3) (entry (c .before) .pre .ranges) (l .k) (l .at) (l .inv .start) (c .loop-test .taken)
-
-no-entry-requires : tie.Need-no-entry-requires Inv-loop μ-loop
-no-entry-requires c κs = search needs
+    next-within (a .numbers .now) (a .sizes .now) (length (a .pixels .now) / 3) (entry (c .before) .pre .ranges) (l .k) (l .at) (l .inv .start) (c .loop-test .taken)
 
 loop-holds : tie.Need-loop-holds Inv-loop μ-loop
 loop-holds c = record { within = omega arith; start = refl; room = refl; made = sym (over-none _) }
@@ -53,12 +47,6 @@ mul-gather : tie.Need-mul-gather Inv-loop μ-loop
 unfolding mostPixels
 mul-gather c = omega (arith, next (c .before), entry (c .before .before) .pre .many)
 
-sub-gather : tie.Need-sub-gather Inv-loop μ-loop
-sub-gather c = omega arith
-
-part-gather-start : tie.Need-part-gather-start Inv-loop μ-loop
-part-gather-start c = omega arith
-
 part-gather-end : tie.Need-part-gather-end Inv-loop μ-loop
 part-gather-end c = omega (arith, next (c .before), entry (c .before .before) .pre .ranges .whole)
 
@@ -70,8 +58,8 @@ gather-requires c κs =
     let p = entry (i .before) .pre in
     let t = i .loop-test .taken in
     let m = length (a .pixels .now) / 3 in
-    let long = part-long (a .numbers .now) (a .sizes .now) (a .n) m (p .ranges) (l .k) (l .at) (l .inv .start) t in
-    (omega (arith, long, next i, p .many), part-in (a .numbers .now) (a .sizes .now) (a .n) m (p .ranges) (l .k) (l .at) (l .inv .start) t)
+    let long = part-long (a .numbers .now) (a .sizes .now) m (p .ranges) (l .k) (l .at) (l .inv .start) t in
+    (omega (arith, long, next i, p .many), part-in (a .numbers .now) (a .sizes .now) m (p .ranges) (l .k) (l .at) (l .inv .start) t)
 
 entry-requires : tie.Need-entry-requires Inv-loop μ-loop
 entry-requires c κs =
@@ -81,9 +69,9 @@ entry-requires c κs =
     let p = entry (i .before) .pre in
     let t = i .loop-test .taken in
     let g = c .before .before .gather in
-    let few = part-few (a .pixels .now) (a .numbers .now) (a .codes .now) (a .sizes .now) (a .n) (length (a .pixels .now) / 3) (p .ranges) (blank (i .before)) (l .k) (l .at) (l .entries) (l .inv) t (g .result) (g .ensures)
+    let few = part-few (a .pixels .now) (a .numbers .now) (a .codes .now) (a .sizes .now) (length (a .pixels .now) / 3) (p .ranges) _ (l .k) (l .at) (l .entries) (l .inv) t (g .result) (g .ensures)
     (λ j. let known = i .before .before .before .before .before .before .shared-slice-known .given j in omega arith) in
-    (p .small (l .k) t, p .filled (l .k) t, omega (arith, next i, p .many), few .red, few .green, few .blue)
+    (p .small (l .k) (omega (arith, p .coded)), p .filled (l .k) t, omega (arith, next i, p .many), few)
 
 mul-entries : tie.Need-mul-entries Inv-loop μ-loop
 unfolding mostEntries
@@ -97,9 +85,6 @@ add-k : tie.Need-add-k Inv-loop μ-loop
 unfolding mostEntries
 add-k c = omega (arith, entry (c .before .before .before .before .before .before .before) .pre .ranges .few)
 
-loop-less : tie.Need-loop-less Inv-loop μ-loop
-loop-less c = search needs
-
 loop-again : tie.Need-loop-again Inv-loop μ-loop
 unfolding mostEntries
 loop-again c =
@@ -108,7 +93,7 @@ loop-again c =
     let a = entry (i .before) .args in
     let r = entry (i .before) .pre .ranges in
     let g = c .before .before .before .gather in
-    made-more (a .pixels .now) (a .numbers .now) (a .codes .now) (a .sizes .now) (a .n) (length (a .pixels .now) / 3) r (blank (i .before)) (l .k) (l .at) (l .entries) (l .inv) (i .loop-test .taken) (g .result) (g .ensures)
+    made-more (a .pixels .now) (a .numbers .now) (a .codes .now) (a .sizes .now) (length (a .pixels .now) / 3) r _ (l .k) (l .at) (l .entries) (l .inv) (i .loop-test .taken) (g .result) (g .ensures)
     (c .entry .result) (c .entry .ensures) (omega (arith, r .few))
 
 returns : tie.Need-returns Inv-loop μ-loop
@@ -116,10 +101,10 @@ unfolding mostEntries
 returns c =
     let l = c .before .loop in
     let a = entry (c .before) .args in
-    let made = entriesBy (a .n) (a .codes .now) (a .sizes .now) (a .numbers .now) (pixelsOf (a .pixels .now)) in
-    let long = entries-long (a .n) (a .codes .now) (a .sizes .now) (a .numbers .now) (pixelsOf (a .pixels .now)) in
-    l .inv .made ∙ ap (λ (es : List Entry). over es (blank (c .before))) (take-all (l .k) made (omega (arith, c .loop-test .left)))
-    ∙ ap (λ (z : Entry). over made (replicate 255 z)) (c .before .before .no-entry .ensures) ∙ over-padded 255 noEntry made
+    let made = entriesBy (a .codes .now) (a .sizes .now) (a .numbers .now) (pixelsOf (a .pixels .now)) in
+    let long = entries-long (a .codes .now) (a .sizes .now) (a .numbers .now) (pixelsOf (a .pixels .now)) in
+    l .inv .made ∙ ap (λ (es : List Entry). over es (replicate mostEntries (c .before .before .no-entry .result))) (take-all (l .k) made (omega (arith, c .loop-test .left)))
+    ∙ ap (λ (z : Entry). over made (replicate mostEntries z)) (c .before .before .no-entry .ensures) ∙ over-padded mostEntries noEntry made
 
 pub entries-of-spec : {M : Type 1} → statement M
 entries-of-spec =
@@ -127,15 +112,15 @@ entries-of-spec =
     (tie.spec
     Inv-loop
     μ-loop
-    no-entry-requires
+    (λ c κs. search needs)
     loop-holds
     (λ c. search needs)
     (λ c. search needs)
     cast-end
     add-end
     mul-gather
-    sub-gather
-    part-gather-start
+    (λ c. omega arith)
+    (λ c. omega arith)
     part-gather-end
     gather-requires
     (λ c. search needs)
@@ -146,6 +131,6 @@ entries-of-spec =
     mul-entries
     array-set-from-entries
     add-k
-    loop-less
+    (λ c. search needs)
     loop-again
     returns)

@@ -5,7 +5,8 @@ use borrow.Author.Needs.{needs}
 use lib.ListN.{length}
 use Rattle.palette.specs.Cards.{pixelsOf}
 use Rattle.palette.proofs.Triples.{pixels-bytes}
-use Rattle.making.proofs.Gathered.{SumsFew, Gathered, gathered-none, gathered-room, gathered-more, gathered-all}
+use Rattle.making.specs.Making.{SumsFew}
+use Rattle.making.proofs.Gathered.{Gathered, gathered-none, gathered-room, gathered-more, gathered-all}
 use Rattle.making.proofs.entries.gather.Statement.{statement}
 use Rattle.making.proofs.entries.gather.Tie as tie
 
@@ -46,12 +47,6 @@ plus-requires-2 c κs = omega (arith, few (c .before) .green, entry (c .before .
 plus-requires-3 : tie.Need-plus-requires-3 Inv-loop μ-loop
 plus-requires-3 c κs = omega (arith, few (c .before .before) .blue, entry (c .before .before .before .before .before) .pre .0)
 
-add-i : tie.Need-add-i Inv-loop μ-loop
-add-i c = search needs
-
-loop-less : tie.Need-loop-less Inv-loop μ-loop
-loop-less c = search needs
-
 loop-again : tie.Need-loop-again Inv-loop μ-loop
 loop-again c =
     let l = c .before .before .before .before .before .before .loop in
@@ -80,7 +75,7 @@ gather-spec =
     plus-requires
     plus-requires-2
     plus-requires-3
-    add-i
-    loop-less
+    (λ c. search needs)
+    (λ c. search needs)
     loop-again
     returns)

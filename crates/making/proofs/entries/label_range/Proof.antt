@@ -31,12 +31,6 @@ cast-labels c = omega (arith, c .shared-slice-known .given (c .before .before .l
 slice-write-labels : tie.Need-slice-write-labels Inv-loop μ-loop
 slice-write-labels c = let l = c .before .before .loop in omega (arith, entry (c .before .before) .pre (l .at) (omega arith), l .inv .1)
 
-add-at : tie.Need-add-at Inv-loop μ-loop
-add-at c = search needs
-
-loop-less : tie.Need-loop-less Inv-loop μ-loop
-loop-less c = search needs
-
 loop-again : tie.Need-loop-again Inv-loop μ-loop
 loop-again c =
     let l = c .before .before .loop in
@@ -64,8 +58,8 @@ label-range-spec =
     (λ c. search needs)
     cast-labels
     slice-write-labels
-    add-at
-    loop-less
+    (λ c. search needs)
+    (λ c. search needs)
     loop-again
     same-length
     returns)

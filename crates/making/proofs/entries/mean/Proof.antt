@@ -6,8 +6,9 @@ use native.Mathlib.Nat.{div-lt-iff-lt-mul}
 use borrow.Author.Needs.{needs}
 use mir.Syntax.{w8}
 use mir.Val.{Fits}
-use Rattle.making.specs.Making.{meanBy}
+use Rattle.palette.specs.Cards.{meanBy}
 use Rattle.palette.specs.Sound.{mostPixels}
+use Rattle.making.specs.Making.{largestByte}
 use Rattle.making.proofs.entries.mean.Statement.{statement}
 use Rattle.making.proofs.entries.mean.Tie as tie
 
@@ -27,7 +28,7 @@ div-result : tie.Need-div-result
 div-result c = search needs
 
 -- a quotient of at most this is a byte, whatever is added to round it
-fits : (x total count : ℕ) → 0 < count → total ≤ 255 * count → x ≤ 2 * total + count → Fits w8 (x / (2 * count))
+fits : (x total count : ℕ) → 0 < count → total ≤ largestByte * count → x ≤ 2 * total + count → Fits w8 (x / (2 * count))
 fits x total count some few most = let below : x / (2 * count) < 256 = div-lt-iff-lt-mul {k = 2 * count} {x = x} {y = 256} (omega arith) .1 (omega arith) in omega arith
 
 cast-result : tie.Need-cast-result

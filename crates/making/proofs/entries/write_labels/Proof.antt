@@ -3,7 +3,7 @@ use Prim.Native.Nat.{ℕ, _+_, _-_, _≤_}
 use mathlib.Core.Path.{refl, ap, _∙_}
 use native.Mathlib.Omega.{arith}
 use borrow.Author.Needs.{needs}
-use lib.ListN.{length, take, getD}
+use lib.ListN.{length, getD}
 use Rattle.lists.specs.Lists.{total}
 use Rattle.palette.specs.Cards.{mostEntries}
 use Rattle.making.specs.Making.{labelsBy}
@@ -13,20 +13,20 @@ use Rattle.making.proofs.entries.write_labels.Statement.{statement}
 use Rattle.making.proofs.entries.write_labels.Tie as tie
 
 abbrev Inv-loop : tie.InvT-loop
-Inv-loop numbers sizes n labels₀ at₀ k₀ labels at k = LabelsGiven numbers sizes labels₀ n k at labels
+Inv-loop numbers sizes labels₀ at₀ k₀ labels at k = LabelsGiven numbers sizes labels₀ k at labels
 
 abbrev μ-loop : tie.MeasureT-loop
-μ-loop numbers sizes n labels₀ at₀ k₀ labels at k = n - k
+μ-loop numbers sizes labels₀ at₀ k₀ labels at k = length sizes - k
 
 -- the way to the call
 abbrev entry : tie.At-loop Inv-loop μ-loop → tie.Start Inv-loop μ-loop
 entry c = c .before .before .before .before
 
-next : (c : tie.In-loop Inv-loop μ-loop) → c .before .loop .at + getD (entry (c .before) .args .sizes .now) (c .before .loop .k) 0 ≤ total (take (entry (c .before) .args .n) (entry (c .before) .args .sizes .now))
+next : (c : tie.In-loop Inv-loop μ-loop) → c .before .loop .at + getD (entry (c .before) .args .sizes .now) (c .before .loop .k) 0 ≤ total (entry (c .before) .args .sizes .now)
 next c =
     let l = c .before .loop in
     let a = entry (c .before) .args in
-    next-within (a .numbers .now) (a .sizes .now) (a .n) (length (a .labels .now)) (entry (c .before) .pre) (l .k) (l .at) (l .inv .start) (c .loop-test .taken)
+    next-within (a .numbers .now) (a .sizes .now) (length (a .labels .now)) (entry (c .before) .pre) (l .k) (l .at) (l .inv .start) (c .loop-test .taken)
 
 loop-holds : tie.Need-loop-holds Inv-loop μ-loop
 unfolding labelsBy
@@ -41,12 +41,6 @@ add-end c = omega (arith, next (c .before), entry (c .before .before) .pre .whol
 mul-label-range : tie.Need-mul-label-range Inv-loop μ-loop
 mul-label-range c = omega (arith, next (c .before), entry (c .before .before) .pre .whole)
 
-sub-label-range : tie.Need-sub-label-range Inv-loop μ-loop
-sub-label-range c = omega arith
-
-part-label-range-start : tie.Need-part-label-range-start Inv-loop μ-loop
-part-label-range-start c = omega arith
-
 part-label-range-end : tie.Need-part-label-range-end Inv-loop μ-loop
 part-label-range-end c = omega (arith, next (c .before), entry (c .before .before) .pre .whole)
 
@@ -60,14 +54,11 @@ label-range-requires c κs =
     let l = i .before .loop in
     let a = entry (i .before) .args in
     let p = entry (i .before) .pre in
-    λ j h. omega (arith, part-in (a .numbers .now) (a .sizes .now) (a .n) (length (a .labels .now)) p (l .k) (l .at) (l .inv .start) (i .loop-test .taken) j h, l .inv .long)
+    λ j h. omega (arith, part-in (a .numbers .now) (a .sizes .now) (length (a .labels .now)) p (l .k) (l .at) (l .inv .start) (i .loop-test .taken) j h, l .inv .long)
 
 add-k : tie.Need-add-k Inv-loop μ-loop
 unfolding mostEntries
 add-k c = omega (arith, entry (c .before .before .before .before .before .before .before) .pre .few)
-
-loop-less : tie.Need-loop-less Inv-loop μ-loop
-loop-less c = search needs
 
 loop-again : tie.Need-loop-again Inv-loop μ-loop
 loop-again c =
@@ -75,7 +66,7 @@ loop-again c =
     let l = i .before .loop in
     let a = entry (i .before) .args in
     let w = c .before .before .label-range in
-    given-more (a .numbers .now) (a .sizes .now) (a .labels .now) (a .n) (length (a .labels .now)) (entry (i .before) .pre) (l .k) (l .at) (l .labels) (l .inv) (i .loop-test .taken) (w .last .1 .1 .0) (w .ensures)
+    given-more (a .numbers .now) (a .sizes .now) (a .labels .now) (length (a .labels .now)) (entry (i .before) .pre) (l .k) (l .at) (l .labels) (l .inv) (i .loop-test .taken) (w .last .1 .1 .0) (w .ensures)
 
 same-length : tie.Need-same-length Inv-loop μ-loop
 same-length c = c .before .loop .inv .long
@@ -98,13 +89,13 @@ write-labels-spec =
     cast-end
     add-end
     mul-label-range
-    sub-label-range
-    part-label-range-start
+    (λ c. omega arith)
+    (λ c. omega arith)
     part-label-range-end
     cast-label-range
     label-range-requires
     add-k
-    loop-less
+    (λ c. search needs)
     loop-again
     same-length
     returns)
