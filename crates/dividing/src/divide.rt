@@ -4,12 +4,12 @@ use crate::kinds::sort_kinds;
 use crate::levels::split;
 use crate::sorting::copy;
 ghost use mathlib.Core.Path.{_≡_};
-ghost use Prim.Native.Nat.{_≤_, _*_, _+_, _^_};
+ghost use Prim.Native.Nat.{_≤_, _*_};
 ghost use lib.ListN.{length};
 ghost use Rattle.verdict.specs.Test.{mostCloseness};
 ghost use Rattle.palette.specs.Cards.{pixelsOf};
 ghost use Rattle.palette.specs.Sound.{mostPixels};
-ghost use Rattle.dividing.specs.Splitting.{modeBase, codeCount, AllIn, AllColours, resting, Split};
+ghost use Rattle.dividing.specs.Splitting.{resting, Split, Divisible};
 ghost use Rattle.dividing.specs.Kinds.{leavesSome, PixelsDivided};
 
 // Splits a range, if it has pixels.
@@ -22,9 +22,7 @@ fn split_some(
     codes: &mut [u32],
     sizes: &mut [u32],
 ) -> usize
-    requires { ⌜ (node .left ≤ 3) × (node .closeness ≤ mostCloseness) × (node .found + modeBase ^ node .left ≤ 2 ^ 32) × ((node .code + 1) * modeBase ^ node .left ≤ codeCount) ⌝ }
-    requires { ⌜ (length (now order) ≡ length (now other)) × (length (now order) ≤ length (now keys)) × (length (now order) ≤ mostPixels) × AllIn (now order) (now pixels)
-        × (node .left ≡ 3 → AllColours (now order) (now pixels)) ⌝ }
+    requires { ⌜ Divisible node (now pixels) (now order) (now other) (now keys) ⌝ }
     ensures { λ r. ⌜ Split (leavesSome (node .closeness) (pixelsOf (now (pixels .entry))) (node .left) (node .code) (now (order .entry))) (node .found)
         (now (codes .entry)) (now (sizes .entry)) (now (codes .exit)) (now (sizes .exit)) (resting (node .left) (now (order .exit)) (now (other .exit))) r ⌝ }
 {

@@ -111,7 +111,17 @@ split-some-requires c κs =
     let p = entry k .pre in
     let l = laid k in
     let long = greys-long (bytes k) (order k) (other k) (greys k) (all k) l in
-    ((omega arith, p .4, omega arith, omega arith), (greys-room (bytes k) (order k) (other k) (greys k) (all k) l, omega (arith, long, l .some, p .2), omega (arith, long, l .some, p .3), l .greysIn, λ e. absurd (omega arith)))
+    record {
+      left = omega arith;
+      closeness = p .4;
+      room = omega arith;
+      codes = omega arith;
+      lists = greys-room (bytes k) (order k) (other k) (greys k) (all k) l;
+      keyed = omega (arith, long, l .some, p .2);
+      few = omega (arith, long, l .some, p .3);
+      inside = l .greysIn;
+      coloured = λ e. absurd (omega arith);
+    }
 
 slice-aggregate-split-some-2 : tie.Need-slice-aggregate-split-some-2
 slice-aggregate-split-some-2 c =
@@ -143,10 +153,18 @@ split-some-requires-2 c κs =
     let long = colours-long (bytes k) (order k) (other k) (greys k) (all k) l (u f) (v f) lu lv in
     let room = colours-room (bytes k) (order k) (other k) (greys k) (all k) l (u f) (v f) lu lv in
     let lent = colours-lent (bytes k) (order k) (other k) (greys k) (all k) l (u f) (v f) lu lv in
-    let few = some-few (entry k .args .closeness) (pixelsOf (bytes k)) 1 0 (take (greys k) (order k)) in (
-      (omega arith, p .4, omega (arith, few, f .split-some .ensures .count), omega arith),
-      (room, omega (arith, long, l .order, p .2, f .split-some .kept .1 .1 .1 .1 .0), omega (arith, long, l .order, p .3), rw lent (l .coloursIn), λ e. rw lent (l .coloured)),
-    )
+    let few = some-few (entry k .args .closeness) (pixelsOf (bytes k)) 1 0 (take (greys k) (order k)) in
+    record {
+      left = omega arith;
+      closeness = p .4;
+      room = omega (arith, few, f .split-some .ensures .count);
+      codes = omega arith;
+      lists = room;
+      keyed = omega (arith, long, l .order, p .2, f .split-some .kept .1 .1 .1 .1 .0);
+      few = omega (arith, long, l .order, p .3);
+      inside = rw lent (l .coloursIn);
+      coloured = λ e. rw lent (l .coloured);
+    }
 
 mul-copy : tie.Need-mul-copy
 unfolding mostPixels
