@@ -1,6 +1,8 @@
 // All pixels divided: the greys by intensity, the colours by hue, saturation and intensity.
 use crate::Node;
 use crate::kinds::sort_kinds;
+use crate::levels::FROM_HUE;
+use crate::levels::FROM_INTENSITY;
 use crate::levels::split;
 use crate::sorting::copy;
 ghost use mathlib.Core.Path.{_≡_};
@@ -11,6 +13,11 @@ ghost use Rattle.palette.specs.Cards.{pixelsOf};
 ghost use Rattle.palette.specs.Sound.{mostPixels};
 ghost use Rattle.dividing.specs.Splitting.{resting, Split, Divisible};
 ghost use Rattle.dividing.specs.Kinds.{leavesSome, PixelsDivided};
+
+// The kinds: the first digit of a code.
+const GREY: u32 = 0;
+
+const COLOUR: u32 = 1;
 
 // Splits a range, if it has pixels.
 fn split_some(
@@ -51,8 +58,8 @@ pub fn divide_pixels(
     let colours = order.len() - greys;
     let first = Node {
         closeness: closeness,
-        left: 1,
-        code: 0,
+        left: FROM_INTENSITY,
+        code: GREY,
         found: 0,
     };
     let found = split_some(
@@ -66,8 +73,8 @@ pub fn divide_pixels(
     );
     let second = Node {
         closeness: closeness,
-        left: 3,
-        code: 1,
+        left: FROM_HUE,
+        code: COLOUR,
         found: found,
     };
     let total = split_some(

@@ -11,6 +11,7 @@ ghost use Rattle.lists.specs.Lists.{total};
 ghost use Rattle.verdict.specs.Test.{mostCloseness};
 ghost use Rattle.palette.specs.Levels.{hue, saturation, intensity, binCount};
 ghost use Rattle.palette.specs.Sound.{mostPixels};
+ghost use Rattle.dividing.specs.Sorted.{modeBase};
 ghost use Rattle.dividing.specs.Numbering.{RisesFromZero, NotPassed, Begun, PlacesNumbered, BinsNumbered, LineNumbered};
 
 // The ring of the hues opened into a line has its lowest bin at both ends.
@@ -33,7 +34,7 @@ fn mode_at(separators: &[u32], n: usize, m: usize, i: usize) -> usize
 // Gives each bin its mode. The n modes start at the separators; place i of the line is bin opening + i, round the ring.
 fn number_bins(separators: &[u32], n: usize, opening: usize, modes: &mut [u8])
     requires { ⌜ (0 < n) × (n ≤ length (now separators)) × RisesFromZero (now separators) n ⌝ }
-    requires { ⌜ (opening < length (now modes)) × (length (now modes) ≤ 256) × (n ≤ 256) ⌝ }
+    requires { ⌜ (opening < length (now modes)) × (length (now modes) ≤ binCount hue) × (n ≤ modeBase) ⌝ }
     ensures { λ _. ⌜ PlacesNumbered (now (separators .entry)) n opening (now (modes .exit)) ⌝ }
 {
     let bins = modes.len();
@@ -48,10 +49,10 @@ fn number_bins(separators: &[u32], n: usize, opening: usize, modes: &mut [u8])
 
 // The modes of a line of bins: how many there are, and each bin's.
 fn line_modes(h: &[u32], closeness: u32, modes: &mut [u8]) -> usize
-    requires { ⌜ (2 ≤ length (now h)) × (length (now h) ≤ binCount hue) × (total (now h) ≤ mostPixels) × (closeness ≤ mostCloseness) × (length (now modes) ≡ length (now h)) ⌝ }
+    requires { ⌜ (2 ≤ length (now h)) × (length (now h) ≤ binCount intensity) × (total (now h) ≤ mostPixels) × (closeness ≤ mostCloseness) × (length (now modes) ≡ length (now h)) ⌝ }
     ensures { λ r. ⌜ LineNumbered closeness (now (h .entry)) (now (modes .exit)) r ⌝ }
 {
-    let mut separators = [0u32; HUES];
+    let mut separators = [0u32; INTENSITIES];
     let n = line_separators(h, closeness, &mut separators) as usize - 1;
     number_bins(&separators, n, 0, modes);
     n
