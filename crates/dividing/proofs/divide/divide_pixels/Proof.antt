@@ -82,9 +82,6 @@ other3 s =
     other-end (bytes k) (order k) (other k) (greys k) (all k) (laid k) (u f) (v f) (f .split-some .kept .1 .1 .0) (f .split-some .kept .1 .1 .1 .0)
     (w s) (x s) (s .split-some2 .kept .1 .1 .0) (s .split-some2 .kept .1 .1 .1 .0)
 
-sort-kinds-requires : tie.Need-sort-kinds-requires
-sort-kinds-requires c κs = search needs
-
 sub-colours : tie.Need-sub-colours
 sub-colours c = omega (arith, laid (c .before .before .before .before) .some, laid (c .before .before .before .before) .order)
 
@@ -95,15 +92,6 @@ slice-aggregate-split-some : tie.Need-slice-aggregate-split-some
 slice-aggregate-split-some c =
     let k = c .before .before .before .before .before in
     sym (greys-long (bytes k) (order k) (other k) (greys k) (all k) (laid k))
-
-sub-split-some : tie.Need-sub-split-some
-sub-split-some c = search needs
-
-part-split-some-start : tie.Need-part-split-some-start
-part-split-some-start c = search needs
-
-part-split-some-end : tie.Need-part-split-some-end
-part-split-some-end c = search needs
 
 split-some-requires : tie.Need-split-some-requires
 split-some-requires c κs =
@@ -139,9 +127,6 @@ sub-split-some-2 c = let f = c .before .before .before .before .before .before .
 part-split-some-start-2 : tie.Need-part-split-some-start-2
 part-split-some-start-2 c = let f = c .before .before .before .before .before .before .before .before .before .before .before in omega (arith, order2 f, laid (kinds f) .some)
 
-part-split-some-end-2 : tie.Need-part-split-some-end-2
-part-split-some-end-2 c = search needs
-
 split-some-requires-2 : tie.Need-split-some-requires-2
 split-some-requires-2 c κs =
     let f = c .before .before .before .before .before .before .before .before .before .before .before .before .before .before .before in
@@ -175,9 +160,6 @@ sub-copy c = let s = c .before .before .before .before .before .before .before .
 
 part-copy-start : tie.Need-part-copy-start
 part-copy-start c = let s = c .before .before .before .before .before .before .before .before .before .before .before in omega (arith, other3 s, laid (kinds (first s)) .order)
-
-part-copy-end : tie.Need-part-copy-end
-part-copy-end c = search needs
 
 slice-relend-prefix-copy : tie.Need-slice-relend-prefix-copy
 slice-relend-prefix-copy c = let s = c .before .before .before .before .before .before .before .before .before .before .before .before in omega (arith, order3 s, laid (kinds (first s)) .some)
@@ -231,26 +213,26 @@ pub divide-pixels-spec : {M : Type 1} → statement M
 divide-pixels-spec =
     tie.close
     (tie.spec
-    sort-kinds-requires
+    (λ c κs. search needs)
     sub-colours
     slice-relend-prefix-split-some
     slice-aggregate-split-some
     (λ c. search needs)
-    sub-split-some
-    part-split-some-start
-    part-split-some-end
+    (λ c. search needs)
+    (λ c. search needs)
+    (λ c. search needs)
     split-some-requires
     (λ c. search needs)
     slice-aggregate-split-some-2
     mul-split-some-2
     sub-split-some-2
     part-split-some-start-2
-    part-split-some-end-2
+    (λ c. search needs)
     split-some-requires-2
     mul-copy
     sub-copy
     part-copy-start
-    part-copy-end
+    (λ c. search needs)
     slice-relend-prefix-copy
     slice-aggregate-copy
     copy-requires
