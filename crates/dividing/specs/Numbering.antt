@@ -35,7 +35,7 @@ pub record BinsNumbered (e : Closeness) (l : Level) (h : List ℕ) (modes : List
   pub found : n ≡ length (modesAt e l h)
   pub numbered : (b : ℕ) → b < length h → getD modes b 0 ≡ modeOf e l h b
 
--- the same of a line, whose bins are saturations or intensities: both levels divide a line alike
+-- a line of bins numbered, whether they are saturations or intensities: both levels find the same modes
 pub record LineNumbered (e : Closeness) (h : List ℕ) (modes : List ℕ) (n : ℕ) : Type 0 where
   pub saturations : BinsNumbered e saturation h modes n
   pub intensities : BinsNumbered e intensity h modes n

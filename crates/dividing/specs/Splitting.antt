@@ -99,7 +99,8 @@ pub record Split (ls : List Leaf) (found : ℕ) (codes sizes codes′ sizes′ s
   pub sized : sizes′ ≡ sets sizes found (map (λ (l : Leaf). length (l .pixels)) ls)
   pub order : sorted ≡ flatMap (λ (l : Leaf). l .pixels) ls
 
--- a range can be split at the levels left: its entries have room and small codes, and its numbers, all of pixels, can be sorted into `other`
+-- a range can be split at the levels left: however many entries it gives, their count and codes stay small; each number is a pixel's, a coloured one's where
+-- hue comes next; and `other` and `keys` have room for as many
 pub record Divisible (node : Node) (bytes order other keys : List ℕ) : Type 0 where
   pub left : node .left ≤ 3
   pub closeness : node .closeness ≤ mostCloseness

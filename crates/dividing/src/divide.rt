@@ -40,7 +40,7 @@ fn split_some(
 }
 
 // Divides the pixels: how many entries there are. Their pixels' numbers are left in `order`, entry by entry; codes and sizes as far as there is room.
-// The greys begin in `order` and the colours in `other`, each with as many places past the numbers of the other kind to be sorted into.
+// The greys' numbers stand at the front of `order` and are sorted into the end of `other`; the colours' stand at the front of `other` and are sorted into the end of `order`.
 pub fn divide_pixels(
     pixels: &[u8],
     closeness: u32,

@@ -4,7 +4,7 @@ use pixel::INTENSITIES;
 use segmentation::line_separators;
 use segmentation::open_ring;
 ghost use mathlib.Core.Path.{_≡_};
-ghost use Prim.Native.Nat.{_≤_, _<_, _+_, _%_};
+ghost use Prim.Native.Nat.{_≤_, _<_};
 ghost use lib.ListN.{length};
 ghost use Rattle.lists.specs.Lists.{total};
 ghost use Rattle.verdict.specs.Test.{mostCloseness};
