@@ -56,14 +56,14 @@ pub fn divide_pixels(
 {
     let greys = sort_kinds(pixels, order, other);
     let colours = order.len() - greys;
-    let first = Node {
+    let mut node = Node {
         closeness: closeness,
         left: FROM_INTENSITY,
         code: GREY,
         found: 0,
     };
     let found = split_some(
-        first,
+        node,
         pixels,
         &mut order[..greys],
         &mut other[colours..],
@@ -71,14 +71,11 @@ pub fn divide_pixels(
         codes,
         sizes,
     );
-    let second = Node {
-        closeness: closeness,
-        left: FROM_HUE,
-        code: COLOUR,
-        found: found,
-    };
+    node.found = found;
+    node.left = FROM_HUE;
+    node.code = COLOUR;
     let total = split_some(
-        second,
+        node,
         pixels,
         &mut other[..colours],
         &mut order[greys..],
