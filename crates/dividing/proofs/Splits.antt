@@ -1,7 +1,7 @@
 -- What splitting and walking give, put together: the entries of one mode after those of the modes before it. Assumes nothing.
 use Prim.Native.Nat.{ℕ, zero, suc, _+_, _*_, _-_, _^_, _≤_, _<_}
 use mathlib.Core.Path.{_≡_, refl, sym, ap, ap₂, _∙_}
-use mathlib.Core.List.{List, [], _∷_, _++_, map, flatMap, append-assoc, append-nil}
+use mathlib.Core.List.{List, [], _∷_, _++_, map, flatMap, append-assoc, append-nil, map-append}
 use native.Mathlib.Omega.{arith}
 use native.Mathlib.Nat.{mul-le-mul-right}
 use native.Mathlib.Numerals.{unary-clauses}
@@ -19,7 +19,7 @@ use Rattle.palette.specs.Levels.{Level, binCount}
 use Rattle.dividing.specs.Sorted.{modeBase, tally, marked, sortedBy}
 use Rattle.dividing.specs.Splitting.{AllIn, levelAt, Leaf, binsOf, modesOf, marksOf, leaves, walked, resting, Split}
 use Rattle.dividing.proofs.Tallies.{tally-length}
-use Rattle.dividing.proofs.Scattering.{marked-length}
+use Rattle.dividing.proofs.Scattering.{marked-length, numbers-both}
 use Rattle.dividing.proofs.Ranges.{bins-length}
 use Rattle.dividing.proofs.LevelSort.{modes-digit}
 
@@ -27,10 +27,6 @@ use Rattle.dividing.proofs.LevelSort.{modes-digit}
 sets-append : {A : Type 0} (xs : List A) (i : ℕ) (us vs : List A) → sets xs i (us ++ vs) ≡ sets (sets xs i us) (i + length us) vs
 sets-append xs i [] vs = ap (λ (j : ℕ). sets xs j vs) (omega arith)
 sets-append xs i (u ∷ us) vs = sets-append (set xs i u) (suc i) us vs ∙ ap (λ (j : ℕ). sets (sets (set xs i u) (suc i) us) j vs) (omega arith)
-
-pub map-append : {A B : Type 0} (f : A → B) (xs ys : List A) → map f (xs ++ ys) ≡ map f xs ++ map f ys
-map-append f [] ys = refl
-map-append f (x ∷ xs) ys = ap (λ zs. f x ∷ zs) (map-append f xs ys)
 
 -- ---- entries
 pub split-none : (found : ℕ) (codes sizes : List ℕ) → Split [] found codes sizes codes sizes [] found
@@ -64,17 +60,6 @@ resting-both zero a b c d = refl
 resting-both (suc n) a b c d = resting-both n c d a b
 
 -- ---- the modes of a level, walked
-pub numbers-both : (from a b : ℕ) → numbers from (a + b) ≡ numbers from a ++ numbers (from + a) b
-unfolding numbers
-numbers-both from zero b =
-    let z : 0 + b ≡ b = omega arith in
-    let w : from ≡ from + 0 = omega arith in
-    ap (numbers from) z ∙ ap (λ (j : ℕ). numbers j b) w
-numbers-both from (suc a) b = ap (λ (n : ℕ). numbers from n) suc-first ∙ ap (λ (zs : List ℕ). from ∷ zs) (numbers-both (suc from) a b ∙ ap (λ (j : ℕ). numbers (suc from) a ++ numbers j b) (omega arith))
-  where
-    suc-first : suc a + b ≡ suc (a + b)
-    suc-first = omega arith
-
 module _ (e : Closeness) (ps : List Pixel) where
   walked-flat : (left c m k : ℕ) (f : ℕ → List ℕ) (rest : List ℕ)
       → walked e ps left (c + m) (map (λ j. length (f j)) (numbers m k)) (flatMap f (numbers m k) ++ rest) ≡ flatMap (λ j. leaves e ps left (c + j) (f j)) (numbers m k)

@@ -16,7 +16,8 @@ use Rattle.verdict.specs.Test.{Closeness}
 use Rattle.palette.specs.Levels.{Level, binCount}
 use Rattle.palette.specs.Cards.{pixelsOf}
 use Rattle.dividing.specs.Sorted.{codeCount, modeBase, AllBelow, tally}
-use Rattle.dividing.specs.Splitting.{AllIn, levelAt, binsOf, modesOf, marksOf, modeOf, LevelSorted, leaves, walked, resting, Split}
+use Rattle.dividing.specs.Splitting.{AllIn, levelAt, binsOf, modesOf, marksOf, modeOf, LevelSorted, RangeSorted, leaves, walked, resting, Split, Divisible, Walkable}
+use Rattle.dividing.specs.declared.Node.{Node}
 use Rattle.dividing.proofs.Tallies.{tally-length}
 use Rattle.dividing.proofs.Scattering.{start-all}
 use Rattle.dividing.proofs.Gathering.{sums-start}
@@ -32,36 +33,36 @@ marks-in e l keys below i k =
     let u : i < length keys = omega (arith, length-map keys (modeOf e l h)) in
     rw (map-at (modeOf e l h) keys i 0 0 u) (mode-below e l h (tally-length (binCount l) keys) (getD keys i 0) (below i u))
 
-pub record Walkable (left code found : ℕ) (bytes xs sizes sorted : List ℕ) (n : ℕ) : Type 0 where
-  pub fits : n ≤ length sizes
-  pub long : length (take n sizes) ≡ n
-  pub room : found + length (take n sizes) * modeBase ^ (left - 1) ≤ 2 ^ 32
-  pub digits : (code * modeBase + length (take n sizes)) * modeBase ^ (left - 1) ≤ codeCount
-  pub inside : AllIn sorted bytes
-  pub whole : total (take n sizes) ≡ length xs
+module _ (node : Node) (bytes order sizes sorted : List ℕ) (n : ℕ) (s : RangeSorted (node .closeness) (pixelsOf bytes) (levelAt (node .left)) order sizes sorted n) where
+  few-modes : n ≤ modeBase
+  few-modes = omega (arith, s .modes, modes-in-base (node .closeness) (pixelsOf bytes) (levelAt (node .left)) (binsOf (pixelsOf bytes) (levelAt (node .left)) order))
 
-pub split-walkable : (e : Closeness) (bytes : List ℕ) → ((j : ℕ) → getD bytes j 0 < 256) → (left code found : ℕ) (xs sizes sorted : List ℕ) (n : ℕ) → 1 ≤ left
-    → found + modeBase ^ left ≤ 2 ^ 32 → (code + 1) * modeBase ^ left ≤ codeCount → AllIn xs bytes
-    → LevelSorted e (levelAt left) (binsOf (pixelsOf bytes) (levelAt left) xs) xs sizes sorted n → Walkable left code found bytes xs sizes sorted n
-unfolding marksOf
-split-walkable e bytes byte left code found xs sizes sorted n some room digits inside s =
-    let l = levelAt left in
-    let keys = binsOf (pixelsOf bytes) l xs in
-    let ks = marksOf e l keys in
-    let few : n ≤ modeBase = omega (arith, s .modes, modes-in-base e (pixelsOf bytes) l keys) in
-    let sized : length sizes ≡ modeBase = ap length (s .counts) ∙ tally-length modeBase ks in
-    let long : length (take n sizes) ≡ n = length-take-le n sizes (omega arith) in
-    let below : AllBelow ks n = rw (s .modes) (marks-in e l keys (keys-below bytes byte l xs keys refl)) in
-    let more = room-more left some in
-    let times = mul-le-mul-right (modeBase ^ (left - 1)) few in
-    record {
-      fits = omega arith;
-      long = long;
-      room = rw long (omega arith);
-      digits = rw long (omega (arith, ap (λ (j : ℕ). code * j) more));
-      inside = rw (s .order) (sorted-in modeBase ks xs bytes inside);
-      whole = ap (λ (z : List ℕ). total (take n z)) (s .counts) ∙ sums-start modeBase ks n few ∙ start-all ks n below ∙ length-map keys _ ∙ bins-length (pixelsOf bytes) l xs;
-    }
+  pub modes-fit : n ≤ length sizes
+  modes-fit = omega (arith, few-modes, ap length (s .counts), tally-length modeBase (marksOf (node .closeness) (levelAt (node .left)) (binsOf (pixelsOf bytes) (levelAt (node .left)) order)))
+
+  pub split-walkable : (other keys keys′ : List ℕ) → Divisible node bytes order other keys → 1 ≤ node .left → ((j : ℕ) → getD bytes j 0 < 256)
+      → length sorted ≡ length other → length keys′ ≡ length keys
+      → Walkable (record { closeness = node .closeness; left = node .left - 1; code = node .code * modeBase; found = node .found }) (take n sizes) bytes sorted order keys′
+  unfolding marksOf
+  split-walkable other keys keys′ d some byte other′ same =
+      let l = levelAt (node .left) in
+      let bins = binsOf (pixelsOf bytes) l order in
+      let ks = marksOf (node .closeness) l bins in
+      let long : length (take n sizes) ≡ n = length-take-le n sizes modes-fit in
+      let below : AllBelow ks n = rw (s .modes) (marks-in (node .closeness) l bins (keys-below bytes byte l order bins refl)) in
+      let more = room-more (node .left) some in
+      let times = mul-le-mul-right (modeBase ^ (node .left - 1)) few-modes in
+      record {
+        left = omega (arith, d .left);
+        closeness = d .closeness;
+        room = rw long (omega (arith, d .room));
+        codes = rw long (omega (arith, d .codes, ap (λ (j : ℕ). node .code * j) more));
+        lists = other′ ∙ sym (d .lists);
+        keyed = omega (arith, d .lists, d .keyed);
+        few = omega (arith, d .lists, d .few);
+        inside = rw (s .order) (sorted-in modeBase ks order bytes (d .inside));
+        whole = ap (λ (z : List ℕ). total (take n z)) (s .counts) ∙ sums-start modeBase ks n few-modes ∙ start-all ks n below ∙ length-map bins _ ∙ bins-length (pixelsOf bytes) l order ∙ d .lists ∙ sym other′;
+      }
 
 pub split-walked : (e : Closeness) (ps : List Pixel) (left code found : ℕ) (xs sizes sorted : List ℕ) (n : ℕ) (codes figures codes′ figures′ a b : List ℕ) (found′ : ℕ) → 1 ≤ left
     → LevelSorted e (levelAt left) (binsOf ps (levelAt left) xs) xs sizes sorted n
@@ -112,7 +113,7 @@ walked-few e ps left code (s ∷ ss) xs =
     omega (arith, length-append (leaves e ps left code (take s xs)) (walked e ps left (suc code) ss (drop s xs)), leaves-few e ps left code (take s xs), walked-few e ps left (suc code) ss (drop s xs))
 
 -- ---- a part of a list lent and given back
-pub part-long : (at s : ℕ) (xs : List ℕ) → at + s ≤ length xs → length (take (at + s - at) (drop at xs)) ≡ s
+part-long : (at s : ℕ) (xs : List ℕ) → at + s ≤ length xs → length (take (at + s - at) (drop at xs)) ≡ s
 part-long at s xs fits =
     let size : at + s - at ≡ s = omega arith in
     length-take-le (at + s - at) (drop at xs) (omega (arith, length-drop at xs)) ∙ size
@@ -140,7 +141,7 @@ pub record Lists : Type 0 where
   pub sizes : List ℕ
 
 -- after m modes, of a walk that began with other lists
-pub record Walks (e : Closeness) (bytes : List ℕ) (left code found : ℕ) (parts : List ℕ) (l₀ : Lists) (m at : ℕ) (l : Lists) (found′ : ℕ) : Type 0 where
+pub record Walks (node : Node) (parts bytes : List ℕ) (l₀ : Lists) (m at : ℕ) (l : Lists) (found′ : ℕ) : Type 0 where
   pub within : m ≤ length parts
   pub start : at ≡ total (take m parts)
   pub orderLong : length (l .order) ≡ length (l₀ .order)
@@ -149,15 +150,15 @@ pub record Walks (e : Closeness) (bytes : List ℕ) (left code found : ℕ) (par
   pub codesLong : length (l .codes) ≡ length (l₀ .codes)
   pub sizesLong : length (l .sizes) ≡ length (l₀ .sizes)
   pub ahead : drop at (l .order) ≡ drop at (l₀ .order)
-  pub walkedSo : Split (walked e (pixelsOf bytes) left code (take m parts) (take at (l₀ .order))) found (l₀ .codes) (l₀ .sizes) (l .codes) (l .sizes)
-      (resting left (take at (l .order)) (take at (l .other))) found′
+  pub walkedSo : Split (walked (node .closeness) (pixelsOf bytes) (node .left) (node .code) (take m parts) (take at (l₀ .order))) (node .found) (l₀ .codes) (l₀ .sizes) (l .codes) (l .sizes)
+      (resting (node .left) (take at (l .order)) (take at (l .other))) found′
 
 resting-none : (n : ℕ) → resting n [] [] ≡ []
 resting-none zero = refl
 resting-none (suc n) = resting-none n
 
-module _ (e : Closeness) (bytes : List ℕ) (left code found : ℕ) (parts : List ℕ) (l₀ : Lists) (whole : total parts ≡ length (l₀ .order)) (same : length (l₀ .order) ≡ length (l₀ .other)) where
-  pub walks-none : Walks e bytes left code found parts l₀ 0 0 l₀ found
+module _ (node : Node) (parts bytes : List ℕ) (l₀ : Lists) (d : Walkable node parts bytes (l₀ .order) (l₀ .other) (l₀ .keys)) where
+  pub walks-none : Walks node parts bytes l₀ 0 0 l₀ (node .found)
   unfolding walked
   walks-none = record {
     within = omega arith;
@@ -168,14 +169,14 @@ module _ (e : Closeness) (bytes : List ℕ) (left code found : ℕ) (parts : Lis
     codesLong = refl;
     sizesLong = refl;
     ahead = refl;
-    walkedSo = rw (resting-none left) (split-none found (l₀ .codes) (l₀ .sizes));
+    walkedSo = rw (resting-none (node .left)) (split-none (node .found) (l₀ .codes) (l₀ .sizes));
   }
 
-  module _ (m at : ℕ) (l : Lists) (found′ : ℕ) (w : Walks e bytes left code found parts l₀ m at l found′) where
-    pub walks-all : length parts ≤ m → Split (walked e (pixelsOf bytes) left code parts (l₀ .order)) found (l₀ .codes) (l₀ .sizes) (l .codes) (l .sizes) (resting left (l .order) (l .other)) found′
+  module _ (m at : ℕ) (l : Lists) (found′ : ℕ) (w : Walks node parts bytes l₀ m at l found′) where
+    pub walks-all : length parts ≤ m → Split (walked (node .closeness) (pixelsOf bytes) (node .left) (node .code) parts (l₀ .order)) (node .found) (l₀ .codes) (l₀ .sizes) (l .codes) (l .sizes) (resting (node .left) (l .order) (l .other)) found′
     walks-all end =
         let all = take-all m parts end in
-        let over : at ≡ length (l₀ .order) = w .start ∙ ap total all ∙ whole in
+        let over : at ≡ length (l₀ .order) = w .start ∙ ap total all ∙ d .whole in
         rw (all, take-all at (l₀ .order) (omega arith), take-all at (l .order) (omega (arith, w .orderLong)), take-all at (l .other) (omega (arith, w .otherLong))) at (w .walkedSo)
 
     module _ (more : m < length parts) where
@@ -183,54 +184,60 @@ module _ (e : Closeness) (bytes : List ℕ) (left code found : ℕ) (parts : Lis
       next-start = ap (λ (j : ℕ). j + getD parts m 0) (w .start) ∙ sym (total-more parts m more)
 
       pub walks-fit : at + getD parts m 0 ≤ length (l₀ .order)
-      walks-fit = omega (arith, next-start, total-take-le (m + 1) parts)
+      walks-fit = omega (arith, next-start, total-take-le (m + 1) parts, d .whole)
 
-      pub walks-room : found + length parts * modeBase ^ left ≤ 2 ^ 32 → found′ + modeBase ^ left ≤ 2 ^ 32
-      walks-room room =
-          let some : m + 1 ≤ length parts = omega arith in
-          omega (
-            arith,
-            w .walkedSo .count,
-            walked-few e (pixelsOf bytes) left code (take m parts) (take at (l₀ .order)),
-            ap (λ (j : ℕ). j * modeBase ^ left) (length-take-le m parts (omega arith)),
-            mul-le-mul-right (modeBase ^ left) some,
-          )
-
-      pub walks-digits : (code + length parts) * modeBase ^ left ≤ codeCount → (code + m + 1) * modeBase ^ left ≤ codeCount
-      walks-digits digits =
-          let some : code + m + 1 ≤ code + length parts = omega arith in
-          omega (arith, mul-le-mul-right (modeBase ^ left) some)
-
-      pub walks-in : AllIn (l₀ .order) bytes → AllIn (take (at + getD parts m 0 - at) (drop at (l .order))) bytes
-      walks-in inside i k =
+      next-in : AllIn (take (at + getD parts m 0 - at) (drop at (l .order))) bytes
+      next-in i k =
           let z : at + getD parts m 0 - at ≡ getD parts m 0 = omega arith in
           let long = length-take-le (at + getD parts m 0 - at) (drop at (l .order)) (omega (arith, walks-fit, w .orderLong, length-drop at (l .order))) in
-          rw (getD-take (at + getD parts m 0 - at) (drop at (l .order)) i 0 (omega arith), w .ahead, getD-drop at (l₀ .order) i 0) (inside (at + i) (omega (arith, walks-fit)))
+          rw (getD-take (at + getD parts m 0 - at) (drop at (l .order)) i 0 (omega arith), w .ahead, getD-drop at (l₀ .order) i 0) (d .inside (at + i) (omega (arith, walks-fit)))
+
+      pub walks-divisible : Divisible (record { closeness = node .closeness; left = node .left; code = node .code + m; found = found′ }) bytes
+          (take (at + getD parts m 0 - at) (drop at (l .order))) (take (at + getD parts m 0 - at) (drop at (l .other))) (l .keys)
+      walks-divisible =
+          let s = getD parts m 0 in
+          let first = part-long at s (l .order) (omega (arith, walks-fit, w .orderLong)) in
+          let second = part-long at s (l .other) (omega (arith, walks-fit, w .otherLong, d .lists)) in
+          let some : m + 1 ≤ length parts = omega arith in
+          let codes : node .code + m + 1 ≤ node .code + length parts = omega arith in
+          let few = walked-few (node .closeness) (pixelsOf bytes) (node .left) (node .code) (take m parts) (take at (l₀ .order)) in
+          let many = ap (λ (j : ℕ). j * modeBase ^ node .left) (length-take-le m parts (omega arith)) in
+          record {
+            left = omega (arith, d .left);
+            closeness = d .closeness;
+            room = omega (arith, d .room, w .walkedSo .count, few, many, mul-le-mul-right (modeBase ^ node .left) some);
+            codes = omega (arith, d .codes, mul-le-mul-right (modeBase ^ node .left) codes);
+            lists = first ∙ sym second;
+            keyed = omega (arith, first, walks-fit, d .keyed, w .keysLong);
+            few = omega (arith, first, walks-fit, d .few);
+            inside = next-in;
+            coloured = λ three. absurd (omega (arith, d .left));
+          }
 
       -- the next mode split, in parts of the two lists
       pub walks-more : (u v keys codes sizes : List ℕ) (found″ : ℕ) → length u ≡ length (take (at + getD parts m 0 - at) (drop at (l .order)))
           → length v ≡ length (take (at + getD parts m 0 - at) (drop at (l .other))) → length keys ≡ length (l .keys) → length codes ≡ length (l .codes) → length sizes ≡ length (l .sizes)
-          → Split (leaves e (pixelsOf bytes) left (code + m) (take (at + getD parts m 0 - at) (drop at (l .order)))) found′ (l .codes) (l .sizes) codes sizes (resting left u v) found″
-          → Walks e bytes left code found parts l₀ (m + 1) (at + getD parts m 0)
+          → Split (leaves (node .closeness) (pixelsOf bytes) (node .left) (node .code + m) (take (at + getD parts m 0 - at) (drop at (l .order)))) found′ (l .codes) (l .sizes) codes sizes (resting (node .left) u v) found″
+          → Walks node parts bytes l₀ (m + 1) (at + getD parts m 0)
           (record { order = putMid at (at + getD parts m 0 - at) (l .order) u; other = putMid at (at + getD parts m 0 - at) (l .other) v; keys = keys; codes = codes; sizes = sizes }) found″
       walks-more u v keys codes sizes found″ lu lv lk lc ls r =
           let s = getD parts m 0 in
           let xs = l₀ .order in
           let fit : at + s ≤ length (l .order) = omega (arith, walks-fit, w .orderLong) in
-          let fit′ : at + s ≤ length (l .other) = omega (arith, walks-fit, w .otherLong, same) in
+          let fit′ : at + s ≤ length (l .other) = omega (arith, walks-fit, w .otherLong, d .lists) in
           let z : at + s - at ≡ s = omega arith in
           let more′ : take (m + 1) parts ≡ take m parts ++ (s ∷ []) = ap (λ (j : ℕ). take j parts) (add-one m) ∙ take-suc parts m 0 more in
           let own : take (at + s - at) (drop at (l .order)) ≡ take s (drop at xs) = ap₂ (λ (j : ℕ) (ys : List ℕ). take j ys) z (w .ahead) in
           let long : length (take s (drop at xs)) ≡ s = ap length (sym own) ∙ part-long at s (l .order) fit in
           let many : length (take m parts) ≡ m = length-take-le m parts (omega arith) in
           let leads : total (take m parts) ≡ length (take at xs) = sym (w .start) ∙ sym (length-take-le at xs (omega (arith, walks-fit))) in
-          let all : walked e (pixelsOf bytes) left code (take (m + 1) parts) (take (at + s) xs)
-          ≡ walked e (pixelsOf bytes) left code (take m parts) (take at xs) ++ leaves e (pixelsOf bytes) left (code + m) (take s (drop at xs)) =
-          ap₂ (walked e (pixelsOf bytes) left code) more′ (take-add at s xs) ∙ walked-last e (pixelsOf bytes) left code (take m parts) s (take at xs) (take s (drop at xs)) leads long
-          ∙ ap (λ (j : ℕ). walked e (pixelsOf bytes) left code (take m parts) (take at xs) ++ leaves e (pixelsOf bytes) left (code + j) (take s (drop at xs))) many in
-          let rests : resting left (take (at + s) (putMid at (at + s - at) (l .order) u)) (take (at + s) (putMid at (at + s - at) (l .other) v))
-          ≡ resting left (take at (l .order)) (take at (l .other)) ++ resting left u v =
-          ap₂ (resting left) (put-front at s (l .order) u fit lu) (put-front at s (l .other) v fit′ lv) ∙ resting-both left (take at (l .order)) u (take at (l .other)) v in
+          let all : walked (node .closeness) (pixelsOf bytes) (node .left) (node .code) (take (m + 1) parts) (take (at + s) xs)
+          ≡ walked (node .closeness) (pixelsOf bytes) (node .left) (node .code) (take m parts) (take at xs) ++ leaves (node .closeness) (pixelsOf bytes) (node .left) (node .code + m) (take s (drop at xs)) =
+          ap₂ (walked (node .closeness) (pixelsOf bytes) (node .left) (node .code)) more′ (take-add at s xs) ∙ walked-last (node .closeness) (pixelsOf bytes) (node .left) (node .code) (take m parts) s (take at xs) (take s (drop at xs)) leads long
+          ∙ ap (λ (j : ℕ). walked (node .closeness) (pixelsOf bytes) (node .left) (node .code) (take m parts) (take at xs) ++ leaves (node .closeness) (pixelsOf bytes) (node .left) (node .code + j) (take s (drop at xs))) many in
+          let rests : resting (node .left) (take (at + s) (putMid at (at + s - at) (l .order) u)) (take (at + s) (putMid at (at + s - at) (l .other) v))
+          ≡ resting (node .left) (take at (l .order)) (take at (l .other)) ++ resting (node .left) u v =
+          ap₂ (resting (node .left)) (put-front at s (l .order) u fit lu) (put-front at s (l .other) v fit′ lv) ∙ resting-both (node .left) (take at (l .order)) u (take at (l .other)) v in
           record {
             within = omega arith;
             start = next-start;
@@ -240,7 +247,7 @@ module _ (e : Closeness) (bytes : List ℕ) (left code found : ℕ) (parts : Lis
             codesLong = lc ∙ w .codesLong;
             sizesLong = ls ∙ w .sizesLong;
             ahead = put-rest at s (l .order) u fit lu ∙ ap (drop s) (w .ahead) ∙ drop-drop s at xs;
-            walkedSo = rw (all, rests) (split-both _ _ found found′ found″ (l₀ .codes) (l .codes) codes (l₀ .sizes) (l .sizes) sizes _ (resting left u v) (w .walkedSo) (rw own at r));
+            walkedSo = rw (all, rests) (split-both _ _ (node .found) found′ found″ (l₀ .codes) (l .codes) codes (l₀ .sizes) (l .sizes) sizes _ (resting (node .left) u v) (w .walkedSo) (rw own at r));
           }
 
 -- ---- codes stay small

@@ -3,20 +3,22 @@
 --   Leaf                  an entry's code and the numbers of its pixels
 --   leaves, walked        what splitting a range gives, and walking the ranges of its modes
 --   Split                 how the code holds it
-use Prim.Native.Nat.{ℕ, zero, suc, _+_, _*_, _<_}
+--   Divisible, Walkable   what splitting a range and walking its modes ask for
+use Prim.Native.Nat.{ℕ, zero, suc, _+_, _*_, _^_, _<_, _≤_}
 use mathlib.Core.Path.{_≡_}
 use mathlib.Core.Bool.{false}
 use mathlib.Core.List.{List, [], _∷_, _++_, map, flatMap}
 use lib.ListN.{length, take, drop, getD}
 use lib.Seq.{sets}
-use Rattle.lists.specs.Lists.{numbers, firstIndex, filter}
+use Rattle.lists.specs.Lists.{total, numbers, firstIndex, filter}
 use Rattle.pixel.specs.declared.Pixel.{Pixel}
 use Rattle.pixel.specs.Colour.{isGrey}
-use Rattle.verdict.specs.Test.{Closeness}
+use Rattle.verdict.specs.Test.{Closeness, mostCloseness}
 use Rattle.palette.specs.Levels.{Level, hue, saturation, intensity, binCount, binOf, modesAt, liesIn}
 use Rattle.palette.specs.Cards.{Branch, pixelsOf}
-use Rattle.palette.specs.Sound.{pixelAt}
+use Rattle.palette.specs.Sound.{pixelAt, mostPixels}
 use Rattle.dividing.specs.Sorted.{tally, marked, sortedBy}
+use Rattle.dividing.specs.declared.Node.{Node}
 pub use Rattle.dividing.specs.Sorted.{modeBase, codeCount}
 
 abbrev pub levelAt : ℕ → Level
@@ -96,6 +98,31 @@ pub record Split (ls : List Leaf) (found : ℕ) (codes sizes codes′ sizes′ s
   pub coded : codes′ ≡ sets codes found (map (λ (l : Leaf). l .code) ls)
   pub sized : sizes′ ≡ sets sizes found (map (λ (l : Leaf). length (l .pixels)) ls)
   pub order : sorted ≡ flatMap (λ (l : Leaf). l .pixels) ls
+
+-- a range can be split at the levels left: however many entries it gives, their count and codes stay small; each number is a pixel's, a coloured one's where
+-- hue comes next; and `other` and `keys` have room for as many
+pub record Divisible (node : Node) (bytes order other keys : List ℕ) : Type 0 where
+  pub left : node .left ≤ 3
+  pub closeness : node .closeness ≤ mostCloseness
+  pub room : node .found + modeBase ^ node .left ≤ 2 ^ 32
+  pub codes : (node .code + 1) * modeBase ^ node .left ≤ codeCount
+  pub lists : length order ≡ length other
+  pub keyed : length order ≤ length keys
+  pub few : length order ≤ mostPixels
+  pub inside : AllIn order bytes
+  pub coloured : node .left ≡ 3 → AllColours order bytes
+
+-- the modes of a level, of the sizes `parts`, can be split one after the other
+pub record Walkable (node : Node) (parts bytes order other keys : List ℕ) : Type 0 where
+  pub left : node .left ≤ 2
+  pub closeness : node .closeness ≤ mostCloseness
+  pub room : node .found + length parts * modeBase ^ node .left ≤ 2 ^ 32
+  pub codes : (node .code + length parts) * modeBase ^ node .left ≤ codeCount
+  pub lists : length order ≡ length other
+  pub keyed : length order ≤ length keys
+  pub few : length order ≤ mostPixels
+  pub inside : AllIn order bytes
+  pub whole : total parts ≡ length order
 
 -- ---- against the card as it is defined
 -- the numbers of a branch's pixels

@@ -1,16 +1,23 @@
 // All pixels divided: the greys by intensity, the colours by hue, saturation and intensity.
 use crate::Node;
 use crate::kinds::sort_kinds;
+use crate::levels::FROM_HUE;
+use crate::levels::FROM_INTENSITY;
 use crate::levels::split;
 use crate::sorting::copy;
 ghost use mathlib.Core.Path.{_≡_};
-ghost use Prim.Native.Nat.{_≤_, _*_, _+_, _^_};
+ghost use Prim.Native.Nat.{_≤_, _*_};
 ghost use lib.ListN.{length};
 ghost use Rattle.verdict.specs.Test.{mostCloseness};
 ghost use Rattle.palette.specs.Cards.{pixelsOf};
 ghost use Rattle.palette.specs.Sound.{mostPixels};
-ghost use Rattle.dividing.specs.Splitting.{modeBase, codeCount, AllIn, AllColours, resting, Split};
+ghost use Rattle.dividing.specs.Splitting.{resting, Split, Divisible};
 ghost use Rattle.dividing.specs.Kinds.{leavesSome, PixelsDivided};
+
+// The kinds: the first digit of a code.
+const GREY: u32 = 0;
+
+const COLOUR: u32 = 1;
 
 // Splits a range, if it has pixels.
 fn split_some(
@@ -22,9 +29,7 @@ fn split_some(
     codes: &mut [u32],
     sizes: &mut [u32],
 ) -> usize
-    requires { ⌜ (node .left ≤ 3) × (node .closeness ≤ mostCloseness) × (node .found + modeBase ^ node .left ≤ 2 ^ 32) × ((node .code + 1) * modeBase ^ node .left ≤ codeCount) ⌝ }
-    requires { ⌜ (length (now order) ≡ length (now other)) × (length (now order) ≤ length (now keys)) × (length (now order) ≤ mostPixels) × AllIn (now order) (now pixels)
-        × (node .left ≡ 3 → AllColours (now order) (now pixels)) ⌝ }
+    requires { ⌜ Divisible node (now pixels) (now order) (now other) (now keys) ⌝ }
     ensures { λ r. ⌜ Split (leavesSome (node .closeness) (pixelsOf (now (pixels .entry))) (node .left) (node .code) (now (order .entry))) (node .found)
         (now (codes .entry)) (now (sizes .entry)) (now (codes .exit)) (now (sizes .exit)) (resting (node .left) (now (order .exit)) (now (other .exit))) r ⌝ }
 {
@@ -35,7 +40,7 @@ fn split_some(
 }
 
 // Divides the pixels: how many entries there are. Their pixels' numbers are left in `order`, entry by entry; codes and sizes as far as there is room.
-// The greys begin in `order` and the colours in `other`, each with as many places past the numbers of the other kind to be sorted into.
+// The greys' numbers stand at the front of `order` and are sorted into the end of `other`; the colours' stand at the front of `other` and are sorted into the end of `order`.
 pub fn divide_pixels(
     pixels: &[u8],
     closeness: u32,
@@ -51,14 +56,14 @@ pub fn divide_pixels(
 {
     let greys = sort_kinds(pixels, order, other);
     let colours = order.len() - greys;
-    let first = Node {
+    let mut node = Node {
         closeness: closeness,
-        left: 1,
-        code: 0,
+        left: FROM_INTENSITY,
+        code: GREY,
         found: 0,
     };
     let found = split_some(
-        first,
+        node,
         pixels,
         &mut order[..greys],
         &mut other[colours..],
@@ -66,14 +71,11 @@ pub fn divide_pixels(
         codes,
         sizes,
     );
-    let second = Node {
-        closeness: closeness,
-        left: 3,
-        code: 1,
-        found: found,
-    };
+    node.found = found;
+    node.left = FROM_HUE;
+    node.code = COLOUR;
     let total = split_some(
-        second,
+        node,
         pixels,
         &mut other[..colours],
         &mut order[greys..],

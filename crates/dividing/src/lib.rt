@@ -9,12 +9,12 @@ mod sorting;
 pub use divide::divide_pixels;
 pub use measuring::pixel_at;
 
-// No level has as many modes: the base of an entry's code, whose digits are its kind and its mode numbers.
+// The base of an entry's code, whose digits are its kind and its mode numbers: every level has fewer modes than this.
 pub const MODE_BASE: u32 = 64;
 
 const MODES: usize = MODE_BASE as usize;
 
-// A range that may still be divided: so many levels are left, its kind and the modes chosen are the digits of its code, and so many entries come before it.
+// A range that may still be divided: how many levels are left, the code so far (its kind and the modes chosen), and how many entries come before it.
 pub struct Node {
     pub closeness: u32,
     pub left: usize,

@@ -1,27 +1,27 @@
 // The modes that the bins of a histogram lie in.
 use pixel::HUES;
 use pixel::INTENSITIES;
-use pixel::SATURATIONS;
 use segmentation::line_separators;
 use segmentation::open_ring;
 ghost use mathlib.Core.Path.{_≡_};
-ghost use Prim.Native.Nat.{_≤_, _<_, _+_, _%_};
+ghost use Prim.Native.Nat.{_≤_, _<_};
 ghost use lib.ListN.{length};
 ghost use Rattle.lists.specs.Lists.{total};
 ghost use Rattle.verdict.specs.Test.{mostCloseness};
-ghost use Rattle.palette.specs.Levels.{hue, saturation, intensity, binCount};
+ghost use Rattle.palette.specs.Levels.{hue, intensity, binCount};
 ghost use Rattle.palette.specs.Sound.{mostPixels};
+ghost use Rattle.dividing.specs.Sorted.{modeBase};
 ghost use Rattle.dividing.specs.Numbering.{RisesFromZero, NotPassed, Begun, PlacesNumbered, BinsNumbered, LineNumbered};
 
 // The ring of the hues opened into a line has its lowest bin at both ends.
 const OPENED: usize = HUES + 1;
 
 // The mode at place i: the one at the place before, or the next where that begins here.
-fn mode_at(separators: &[u32], n: usize, m: usize, i: usize) -> usize
-    requires { ⌜ (n ≤ length (now separators)) × RisesFromZero (now separators) n × NotPassed (now separators) n m i ⌝ }
-    ensures { λ r. ⌜ Begun (now (separators .entry)) n r i ⌝ }
+fn mode_at(separators: &[u32], m: usize, i: usize) -> usize
+    requires { ⌜ RisesFromZero (now separators) × NotPassed (now separators) m i ⌝ }
+    ensures { λ r. ⌜ Begun (now (separators .entry)) r i ⌝ }
 {
-    if n <= m + 1 {
+    if separators.len() <= m + 1 {
         return m;
     }
     if separators[m + 1] as usize == i {
@@ -30,45 +30,30 @@ fn mode_at(separators: &[u32], n: usize, m: usize, i: usize) -> usize
     m
 }
 
-// Gives each bin its mode. The n modes start at the separators; place i of the line is bin opening + i, round the ring.
-fn number_bins(separators: &[u32], n: usize, opening: usize, modes: &mut [u8])
-    requires { ⌜ (0 < n) × (n ≤ length (now separators)) × RisesFromZero (now separators) n ⌝ }
-    requires { ⌜ (opening < length (now modes)) × (length (now modes) ≤ 256) × (n ≤ 256) ⌝ }
-    ensures { λ _. ⌜ PlacesNumbered (now (separators .entry)) n opening (now (modes .exit)) ⌝ }
+// Gives each bin its mode. The modes start at the separators; place i of the line is bin opening + i, round the ring.
+fn number_bins(separators: &[u32], opening: usize, modes: &mut [u8])
+    requires { ⌜ RisesFromZero (now separators) × (length (now separators) ≤ modeBase) × (opening < length (now modes)) × (length (now modes) ≤ binCount hue) ⌝ }
+    ensures { λ _. ⌜ PlacesNumbered (now (separators .entry)) opening (now (modes .exit)) ⌝ }
 {
     let bins = modes.len();
     let mut m = 0;
     let mut i = 0;
     while i < bins {
-        m = mode_at(separators, n, m, i);
+        m = mode_at(separators, m, i);
         modes[(opening + i) % bins] = m as u8;
         i += 1;
     }
 }
 
 // The modes of a line of bins: how many there are, and each bin's.
-fn line_modes(h: &[u32], closeness: u32, modes: &mut [u8]) -> usize
-    requires { ⌜ (2 ≤ length (now h)) × (length (now h) ≤ binCount hue) × (total (now h) ≤ mostPixels) × (closeness ≤ mostCloseness) × (length (now modes) ≡ length (now h)) ⌝ }
+pub fn line_modes(h: &[u32], closeness: u32, modes: &mut [u8]) -> usize
+    requires { ⌜ (2 ≤ length (now h)) × (length (now h) ≤ binCount intensity) × (total (now h) ≤ mostPixels) × (closeness ≤ mostCloseness) × (length (now modes) ≡ length (now h)) ⌝ }
     ensures { λ r. ⌜ LineNumbered closeness (now (h .entry)) (now (modes .exit)) r ⌝ }
 {
-    let mut separators = [0u32; HUES];
+    let mut separators = [0u32; INTENSITIES];
     let n = line_separators(h, closeness, &mut separators) as usize - 1;
-    number_bins(&separators, n, 0, modes);
+    number_bins(&separators[..n], 0, modes);
     n
-}
-
-pub fn intensity_modes(h: [u32; INTENSITIES], closeness: u32, modes: &mut [u8]) -> usize
-    requires { ⌜ (total h ≤ mostPixels) × (closeness ≤ mostCloseness) × (length (now modes) ≡ binCount intensity) ⌝ }
-    ensures { λ r. ⌜ BinsNumbered closeness intensity h (now (modes .exit)) r ⌝ }
-{
-    line_modes(&h, closeness, modes)
-}
-
-pub fn saturation_modes(h: [u32; SATURATIONS], closeness: u32, modes: &mut [u8]) -> usize
-    requires { ⌜ (total h ≤ mostPixels) × (closeness ≤ mostCloseness) × (length (now modes) ≡ binCount saturation) ⌝ }
-    ensures { λ r. ⌜ BinsNumbered closeness saturation h (now (modes .exit)) r ⌝ }
-{
-    line_modes(&h, closeness, modes)
 }
 
 // The hue bins are a ring, which is opened into a line.
@@ -80,6 +65,6 @@ pub fn hue_modes(h: [u32; HUES], closeness: u32, modes: &mut [u8]) -> usize
     let mut separators = [0u32; OPENED];
     let opening = open_ring(&h, &mut opened);
     let n = line_separators(&opened, closeness, &mut separators) as usize - 1;
-    number_bins(&separators, n, opening, modes);
+    number_bins(&separators[..n], opening, modes);
     n
 }

@@ -82,9 +82,6 @@ other3 s =
     other-end (bytes k) (order k) (other k) (greys k) (all k) (laid k) (u f) (v f) (f .split-some .kept .1 .1 .0) (f .split-some .kept .1 .1 .1 .0)
     (w s) (x s) (s .split-some2 .kept .1 .1 .0) (s .split-some2 .kept .1 .1 .1 .0)
 
-sort-kinds-requires : tie.Need-sort-kinds-requires
-sort-kinds-requires c κs = search needs
-
 sub-colours : tie.Need-sub-colours
 sub-colours c = omega (arith, laid (c .before .before .before .before) .some, laid (c .before .before .before .before) .order)
 
@@ -96,22 +93,23 @@ slice-aggregate-split-some c =
     let k = c .before .before .before .before .before in
     sym (greys-long (bytes k) (order k) (other k) (greys k) (all k) (laid k))
 
-sub-split-some : tie.Need-sub-split-some
-sub-split-some c = search needs
-
-part-split-some-start : tie.Need-part-split-some-start
-part-split-some-start c = search needs
-
-part-split-some-end : tie.Need-part-split-some-end
-part-split-some-end c = search needs
-
 split-some-requires : tie.Need-split-some-requires
 split-some-requires c κs =
     let k = c .before .before .before .before .before .before .before .before .before in
     let p = entry k .pre in
     let l = laid k in
     let long = greys-long (bytes k) (order k) (other k) (greys k) (all k) l in
-    ((omega arith, p .4, omega arith, omega arith), (greys-room (bytes k) (order k) (other k) (greys k) (all k) l, omega (arith, long, l .some, p .2), omega (arith, long, l .some, p .3), l .greysIn, λ e. absurd (omega arith)))
+    record {
+      left = omega arith;
+      closeness = p .4;
+      room = omega arith;
+      codes = omega arith;
+      lists = greys-room (bytes k) (order k) (other k) (greys k) (all k) l;
+      keyed = omega (arith, long, l .some, p .2);
+      few = omega (arith, long, l .some, p .3);
+      inside = l .greysIn;
+      coloured = λ e. absurd (omega arith);
+    }
 
 slice-aggregate-split-some-2 : tie.Need-slice-aggregate-split-some-2
 slice-aggregate-split-some-2 c =
@@ -129,9 +127,6 @@ sub-split-some-2 c = let f = c .before .before .before .before .before .before .
 part-split-some-start-2 : tie.Need-part-split-some-start-2
 part-split-some-start-2 c = let f = c .before .before .before .before .before .before .before .before .before .before .before in omega (arith, order2 f, laid (kinds f) .some)
 
-part-split-some-end-2 : tie.Need-part-split-some-end-2
-part-split-some-end-2 c = search needs
-
 split-some-requires-2 : tie.Need-split-some-requires-2
 split-some-requires-2 c κs =
     let f = c .before .before .before .before .before .before .before .before .before .before .before .before .before .before .before in
@@ -143,10 +138,18 @@ split-some-requires-2 c κs =
     let long = colours-long (bytes k) (order k) (other k) (greys k) (all k) l (u f) (v f) lu lv in
     let room = colours-room (bytes k) (order k) (other k) (greys k) (all k) l (u f) (v f) lu lv in
     let lent = colours-lent (bytes k) (order k) (other k) (greys k) (all k) l (u f) (v f) lu lv in
-    let few = some-few (entry k .args .closeness) (pixelsOf (bytes k)) 1 0 (take (greys k) (order k)) in (
-      (omega arith, p .4, omega (arith, few, f .split-some .ensures .count), omega arith),
-      (room, omega (arith, long, l .order, p .2, f .split-some .kept .1 .1 .1 .1 .0), omega (arith, long, l .order, p .3), rw lent (l .coloursIn), λ e. rw lent (l .coloured)),
-    )
+    let few = some-few (entry k .args .closeness) (pixelsOf (bytes k)) 1 0 (take (greys k) (order k)) in
+    record {
+      left = omega arith;
+      closeness = p .4;
+      room = omega (arith, few, f .split-some .ensures .count);
+      codes = omega arith;
+      lists = room;
+      keyed = omega (arith, long, l .order, p .2, f .split-some .kept .1 .1 .1 .1 .0);
+      few = omega (arith, long, l .order, p .3);
+      inside = rw lent (l .coloursIn);
+      coloured = λ e. rw lent (l .coloured);
+    }
 
 mul-copy : tie.Need-mul-copy
 unfolding mostPixels
@@ -157,9 +160,6 @@ sub-copy c = let s = c .before .before .before .before .before .before .before .
 
 part-copy-start : tie.Need-part-copy-start
 part-copy-start c = let s = c .before .before .before .before .before .before .before .before .before .before .before in omega (arith, other3 s, laid (kinds (first s)) .order)
-
-part-copy-end : tie.Need-part-copy-end
-part-copy-end c = search needs
 
 slice-relend-prefix-copy : tie.Need-slice-relend-prefix-copy
 slice-relend-prefix-copy c = let s = c .before .before .before .before .before .before .before .before .before .before .before .before in omega (arith, order3 s, laid (kinds (first s)) .some)
@@ -213,26 +213,26 @@ pub divide-pixels-spec : {M : Type 1} → statement M
 divide-pixels-spec =
     tie.close
     (tie.spec
-    sort-kinds-requires
+    (λ c κs. search needs)
     sub-colours
     slice-relend-prefix-split-some
     slice-aggregate-split-some
     (λ c. search needs)
-    sub-split-some
-    part-split-some-start
-    part-split-some-end
+    (λ c. search needs)
+    (λ c. search needs)
+    (λ c. search needs)
     split-some-requires
     (λ c. search needs)
     slice-aggregate-split-some-2
     mul-split-some-2
     sub-split-some-2
     part-split-some-start-2
-    part-split-some-end-2
+    (λ c. search needs)
     split-some-requires-2
     mul-copy
     sub-copy
     part-copy-start
-    part-copy-end
+    (λ c. search needs)
     slice-relend-prefix-copy
     slice-aggregate-copy
     copy-requires

@@ -10,15 +10,12 @@ use Rattle.dividing.proofs.divide.split_some.Tie as tie
 returns : tie.Need-returns
 returns c =
     let a = c .before .before .before .before .before .before .before .args in
-    let d = c .before .before .before .before .before .before .before .pre .1 in
+    let d = c .before .before .before .before .before .before .before .pre in
     let z : length (a .order .now) ≡ 0 = omega arith in
-    some-none (a .node .closeness) _ (a .node .left) (a .node .code) (a .node .found) (a .order .now) (a .codes .now) (a .sizes .now) (a .order .now) (a .other .now) z refl (sym (d .0))
+    some-none (a .node .closeness) _ (a .node .left) (a .node .code) (a .node .found) (a .order .now) (a .codes .now) (a .sizes .now) (a .order .now) (a .other .now) z refl (sym (d .lists))
 
 split-requires : tie.Need-split-requires
-split-requires c κs =
-    let p = c .before .before .before .before .before .before .before .before .before .before .before .before .pre .0 in
-    let d = c .before .before .before .before .before .before .before .before .before .before .before .before .pre .1 in
-    ((p .0, p .1, p .2, p .3), (d .0, d .1, d .2, d .3, d .4))
+split-requires c κs = c .before .before .before .before .before .before .before .before .before .before .before .before .pre
 
 returns-2 : tie.Need-returns-2
 returns-2 c =

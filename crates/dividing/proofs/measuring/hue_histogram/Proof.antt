@@ -58,14 +58,8 @@ cast-pixel-at c = omega (arith, c .shared-slice-known3 .given (c .before .before
 pixel-at-requires : tie.Need-pixel-at-requires Inv-loop μ-loop
 pixel-at-requires c κs = entry (c .before .before) .pre .2 (c .before .before .loop .i) (omega arith)
 
-turned-back-requires : tie.Need-turned-back-requires Inv-loop μ-loop
-turned-back-requires c κs = search needs
-
 hue-of-requires : tie.Need-hue-of-requires Inv-loop μ-loop
 hue-of-requires c κs = rw (c .turned-back .ensures) (turned-quarter-le (huePoint (c .before .pixel-at .result)))
-
-slice-write-keys : tie.Need-slice-write-keys Inv-loop μ-loop
-slice-write-keys c = search needs
 
 cast-k : tie.Need-cast-k Inv-loop μ-loop
 cast-k c = omega (arith, below c)
@@ -85,12 +79,6 @@ mul-h-2 c = omega (arith, below c)
 
 array-write-h : tie.Need-array-write-h Inv-loop μ-loop
 array-write-h c = below c
-
-add-i : tie.Need-add-i Inv-loop μ-loop
-add-i c = search needs
-
-loop-less : tie.Need-loop-less Inv-loop μ-loop
-loop-less c = search needs
 
 loop-again : tie.Need-loop-again Inv-loop μ-loop
 loop-again c =
@@ -119,17 +107,17 @@ hue-histogram-spec =
     (λ c. search needs)
     cast-pixel-at
     pixel-at-requires
-    turned-back-requires
+    (λ c κs. search needs)
     hue-of-requires
-    slice-write-keys
+    (λ c. search needs)
     cast-k
     mul-h
     array-read-h
     add-h
     mul-h-2
     array-write-h
-    add-i
-    loop-less
+    (λ c. search needs)
+    (λ c. search needs)
     loop-again
     same-length
     returns)

@@ -5,12 +5,6 @@ use Rattle.palette.proofs.Triples.{pixels-at}
 use Rattle.dividing.proofs.measuring.pixel_at.Statement.{statement}
 use Rattle.dividing.proofs.measuring.pixel_at.Tie as tie
 
-add-t6 : tie.Need-add-t6
-add-t6 c = search needs
-
-add-t9 : tie.Need-add-t9
-add-t9 c = search needs
-
 returns : tie.Need-returns
 returns c =
     let a = c .before .before .before in
@@ -22,8 +16,8 @@ pixel-at-spec =
     (tie.spec
     (λ c. search needs)
     (λ c. search needs)
-    add-t6
     (λ c. search needs)
-    add-t9
+    (λ c. search needs)
+    (λ c. search needs)
     (λ c. search needs)
     returns)

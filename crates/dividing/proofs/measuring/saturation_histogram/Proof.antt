@@ -39,22 +39,10 @@ few c =
     passed-few (a .pixels .now) (byte (turn c)) saturation (a .order .now) (a .keys .now) (entry (turn c) .pre .0) (l .i) (l .keys) (l .h) (l .inv) (c .before .before .before .before .loop-test .taken)
     (c .before .pixel-at .result) (c .before .pixel-at .ensures) (c .saturation-by .result) (c .saturation-by .ensures)
 
-roots-requires : tie.Need-roots-requires Inv-loop μ-loop
-roots-requires c κs = search needs
-
 loop-holds : tie.Need-loop-holds Inv-loop μ-loop
 loop-holds c =
     let a = c .before .before .before .before .args in
     passed-none (a .pixels .now) (λ j. let known = c .before .before .before .shared-slice-known .given j in omega arith) saturation (a .order .now) (a .keys .now) (c .before .before .before .before .pre .0)
-
-slice-aggregate-saturation-by : tie.Need-slice-aggregate-saturation-by Inv-loop μ-loop
-slice-aggregate-saturation-by c = search needs
-
-mul-pixel-at : tie.Need-mul-pixel-at Inv-loop μ-loop
-mul-pixel-at c = search needs
-
-shared-slice-read-pixel-at : tie.Need-shared-slice-read-pixel-at Inv-loop μ-loop
-shared-slice-read-pixel-at c = search needs
 
 cast-pixel-at : tie.Need-cast-pixel-at Inv-loop μ-loop
 cast-pixel-at c = omega (arith, c .shared-slice-known3 .given (c .before .before .before .loop .i))
@@ -64,9 +52,6 @@ pixel-at-requires c κs = entry (c .before .before .before) .pre .2 (c .before .
 
 saturation-by-requires : tie.Need-saturation-by-requires Inv-loop μ-loop
 saturation-by-requires c κs = c .before .before .before .before .before .roots .ensures
-
-slice-write-keys : tie.Need-slice-write-keys Inv-loop μ-loop
-slice-write-keys c = search needs
 
 cast-k : tie.Need-cast-k Inv-loop μ-loop
 cast-k c = omega (arith, below c)
@@ -86,12 +71,6 @@ mul-h-2 c = omega (arith, below c)
 
 array-write-h : tie.Need-array-write-h Inv-loop μ-loop
 array-write-h c = below c
-
-add-i : tie.Need-add-i Inv-loop μ-loop
-add-i c = search needs
-
-loop-less : tie.Need-loop-less Inv-loop μ-loop
-loop-less c = search needs
 
 loop-again : tie.Need-loop-again Inv-loop μ-loop
 loop-again c =
@@ -115,23 +94,23 @@ saturation-histogram-spec =
     (tie.spec
     Inv-loop
     μ-loop
-    roots-requires
+    (λ c κs. search needs)
     loop-holds
-    slice-aggregate-saturation-by
-    mul-pixel-at
-    shared-slice-read-pixel-at
+    (λ c. search needs)
+    (λ c. search needs)
+    (λ c. search needs)
     cast-pixel-at
     pixel-at-requires
     saturation-by-requires
-    slice-write-keys
+    (λ c. search needs)
     cast-k
     mul-h
     array-read-h
     add-h
     mul-h-2
     array-write-h
-    add-i
-    loop-less
+    (λ c. search needs)
+    (λ c. search needs)
     loop-again
     same-length
     returns)

@@ -1,17 +1,18 @@
 -- `line_modes` meets its contract. Assumes nothing.
-use Prim.Native.Nat.{_-_}
-use mathlib.Core.Path.{_≡_}
+use mathlib.Core.Path.{_≡_, sym, _∙_}
 use native.Mathlib.Omega.{arith}
 use lib.ListN.{length}
-use Rattle.segmentation.specs.Joining.{lineModes}
-use Rattle.segmentation.proofs.Finishing.{modes-cut, separators-length}
 use Rattle.palette.specs.Sound.{mostPixels}
-use Rattle.dividing.specs.Numbering.{RisesFromZero}
-use Rattle.palette.proofs.FewModes.{line-few}
-use Rattle.dividing.proofs.Numbered.{held-rise, line-numbered}
+use Rattle.dividing.proofs.Numbered.{Lent, starts-lent, line-numbered}
 use borrow.Author.Needs.{needs}
 use Rattle.dividing.proofs.modes.line_modes.Statement.{statement}
 use Rattle.dividing.proofs.modes.line_modes.Tie as tie
+
+abbrev entry : tie.After-line-separators → tie.Start
+entry s = s .before .before .before .before
+
+lent : (s : tie.After-line-separators) → Lent (entry s .args .closeness) (entry s .args .h .now) (entry s .pre .0) (s .line-separators .last .1 .1 .0) (s .line-separators .result)
+lent s = starts-lent (entry s .args .closeness) (entry s .args .h .now) (entry s .pre .0) _ _ _ (s .line-separators .ensures .0) (s .line-separators .ensures .1)
 
 line-separators-requires : tie.Need-line-separators-requires
 unfolding mostPixels
@@ -19,39 +20,31 @@ line-separators-requires c κs =
     let p = c .before .before .before .pre in
     (record { bins = omega arith; counts = omega arith }, (omega arith, omega arith, omega arith))
 
-cast-n : tie.Need-cast-n
-cast-n c = search needs
-
 sub-n : tie.Need-sub-n
-sub-n c =
-    let a = c .before .before .before .before .before .args in
-    omega (arith, c .before .line-separators .ensures .0, separators-length (a .closeness) (a .h .now))
+sub-n c = lent (c .before) .some
+
+array-share-prefix-separators : tie.Need-array-share-prefix-separators
+array-share-prefix-separators c =
+    let s = c .before in
+    omega (arith, lent s .few, entry s .pre .0, entry s .pre .1, s .line-separators .kept .1 .1 .0)
+
+slice-aggregate-number-bins : tie.Need-slice-aggregate-number-bins
+slice-aggregate-number-bins c = sym (lent (c .before .before) .long)
 
 number-bins-requires : tie.Need-number-bins-requires
 number-bins-requires c κs =
-    let s = c .before .before .before .line-separators in
-    let a = c .before .before .before .before .before .before .before .args in
-    let p = c .before .before .before .before .before .before .before .pre in
-    let h = a .h .now in
-    let e = a .closeness in
-    let n : s .result - 1 ≡ length (lineModes e h) = omega (arith, s .ensures .0, separators-length e h) in
-    let half = line-few e h (p .0) in
-    let some = modes-cut e h (p .0) .nonEmpty in
-    let rise : RisesFromZero (s .last .1 .1 .0) (s .result - 1) = rw (s .ensures .1, n) (held-rise e h (p .0) _) in
-    ((omega (arith, n), omega (arith, n, half, s .kept .1 .1 .0), rise), (omega arith, omega arith, omega (arith, n, half)))
+    let s = c .before .before .before in
+    let l = lent s in
+    let p = entry s .pre in
+    (l .rise, omega (arith, l .long, l .few, p .1), omega arith, omega arith)
 
 returns : tie.Need-returns
 returns c =
-    let s = c .before .before .before .before .before .before .line-separators in
+    let s = c .before .before .before .before .before .before in
     let q = c .before .before .number-bins in
-    let a = c .before .before .before .before .before .before .before .before .before .before .args in
-    let p = c .before .before .before .before .before .before .before .before .before .before .pre in
-    let h = a .h .now in
-    let e = a .closeness in
-    let next = q .last .1 .1 .1 .0 in
-    let n : s .result - 1 ≡ length (lineModes e h) = omega (arith, s .ensures .0, separators-length e h) in
-    let same : length next ≡ length h = omega (arith, q .kept .1 .1 .1 .0) in
-    rw n (line-numbered e h (p .0) _ next same (rw (s .ensures .1, n) at (q .ensures)))
+    let a = entry s .args in
+    let same : length (q .last .1 .1 .0) ≡ length (a .h .now) = q .kept .1 .1 .0 ∙ entry s .pre .4 in
+    rw (lent s .count) (line-numbered (a .closeness) (a .h .now) (entry s .pre .0) (q .last .1 .1 .0) same (rw (lent s .starts) at (q .ensures)))
 
 pub line-modes-spec : {M : Type 1} → statement M
 line-modes-spec =
@@ -59,9 +52,10 @@ line-modes-spec =
     (tie.spec
     (λ c. search needs)
     line-separators-requires
-    cast-n
-    sub-n
     (λ c. search needs)
+    sub-n
+    array-share-prefix-separators
+    slice-aggregate-number-bins
     number-bins-requires
     (λ c. search needs)
     returns)

@@ -8,20 +8,8 @@ use borrow.Author.Needs.{needs}
 use Rattle.dividing.proofs.modes.mode_at.Statement.{statement}
 use Rattle.dividing.proofs.modes.mode_at.Tie as tie
 
-add-if1 : tie.Need-add-if1
-add-if1 c = search needs
-
-returns : tie.Need-returns
-returns c = search needs
-
-add-if2 : tie.Need-add-if2
-add-if2 c = search needs
-
 cast-if2 : tie.Need-cast-if2
 cast-if2 c = omega (arith, c .shared-slice-known .given (c .before .before .args .m + 1))
-
-add-result : tie.Need-add-result
-add-result c = search needs
 
 returns-2 : tie.Need-returns-2
 returns-2 c =
@@ -33,7 +21,7 @@ returns-2 c =
     record {
       mode = omega arith;
       begun = omega (arith, here);
-      notNext = λ l. omega (arith, here, p .1 .rises (m + 1) l);
+      notNext = λ l. omega (arith, here, p .0 .rises (m + 1) l);
     }
 
 returns-3 : tie.Need-returns-3
@@ -41,18 +29,18 @@ returns-3 c =
     let a = c .before .before .before .args in
     let p = c .before .before .before .pre in
     let same = ap (λ (k : ℕ). getD (a .separators .now) k 0) (add-one (a .m)) in
-    record { mode = p .2 .mode; begun = p .2 .begun; notNext = λ l. omega (arith, p .2 .notYet l, same) }
+    record { mode = p .1 .mode; begun = p .1 .begun; notNext = λ l. omega (arith, p .1 .notYet l, same) }
 
 pub mode-at-spec : {M : Type 1} → statement M
 mode-at-spec =
     tie.close
     (tie.spec
-    add-if1
-    returns
-    add-if2
+    (λ c. search needs)
+    (λ c. search needs)
+    (λ c. search needs)
     (λ c. search needs)
     (λ c. search needs)
     cast-if2
-    add-result
+    (λ c. search needs)
     returns-2
     returns-3)

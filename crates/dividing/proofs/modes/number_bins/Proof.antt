@@ -13,45 +13,27 @@ use Rattle.dividing.proofs.modes.number_bins.Statement.{statement}
 use Rattle.dividing.proofs.modes.number_bins.Tie as tie
 
 abbrev Inv-loop : tie.InvT-loop
-Inv-loop separators n opening modes₀ bins m₀ i₀ modes m i =
-    (i ≤ bins) × (length modes ≡ bins) × NotPassed separators n m i
-    × ((k : ℕ) → k < i → (x : ℕ) × Begun separators n x k × (getD modes ((opening + k) % bins) 0 ≡ x))
+Inv-loop separators opening modes₀ bins m₀ i₀ modes m i =
+    (i ≤ bins) × (length modes ≡ bins) × NotPassed separators m i
+    × ((k : ℕ) → k < i → (x : ℕ) × Begun separators x k × (getD modes ((opening + k) % bins) 0 ≡ x))
 
 abbrev μ-loop : tie.MeasureT-loop
-μ-loop separators n opening modes₀ bins m₀ i₀ modes m i = bins - i
+μ-loop separators opening modes₀ bins m₀ i₀ modes m i = bins - i
 
 loop-holds : tie.Need-loop-holds Inv-loop μ-loop
 loop-holds c =
     let p = c .before .before .pre in (
       omega arith,
       refl,
-      record { mode = p .0 .0; begun = omega (arith, p .0 .2 .zero); notYet = λ l. omega arith },
+      record { mode = p .0 .some; begun = omega (arith, p .0 .zero); notYet = λ l. omega arith },
       λ k l. absurd (omega arith),
     )
-
-mode-at-requires : tie.Need-mode-at-requires Inv-loop μ-loop
-mode-at-requires c κs = search needs
-
-cast-modes : tie.Need-cast-modes Inv-loop μ-loop
-cast-modes c = search needs
-
-add-modes : tie.Need-add-modes Inv-loop μ-loop
-add-modes c = search needs
-
-rem-modes : tie.Need-rem-modes Inv-loop μ-loop
-rem-modes c = search needs
 
 slice-write-modes : tie.Need-slice-write-modes Inv-loop μ-loop
 slice-write-modes c =
     let a = c .before .before .before .before .before .args in
     let l = c .before .before .loop in
     omega (arith, mod-lt (a .opening + l .i) {m = length (a .modes .now)} (omega arith), l .inv .1)
-
-add-i : tie.Need-add-i Inv-loop μ-loop
-add-i c = search needs
-
-loop-less : tie.Need-loop-less Inv-loop μ-loop
-loop-less c = search needs
 
 loop-again : tie.Need-loop-again Inv-loop μ-loop
 loop-again c =
@@ -88,13 +70,13 @@ number-bins-spec =
     Inv-loop
     μ-loop
     loop-holds
-    mode-at-requires
-    cast-modes
-    add-modes
-    rem-modes
+    (λ c κs. search needs)
+    (λ c. search needs)
+    (λ c. search needs)
+    (λ c. search needs)
     slice-write-modes
-    add-i
-    loop-less
+    (λ c. search needs)
+    (λ c. search needs)
     loop-again
     (λ c. search needs)
     returns)
