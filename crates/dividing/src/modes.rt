@@ -1,6 +1,7 @@
 // The modes that the bins of a histogram lie in.
 use pixel::HUES;
 use pixel::INTENSITIES;
+use pixel::SATURATIONS;
 use segmentation::line_separators;
 use segmentation::open_ring;
 ghost use mathlib.Core.Path.{_≡_};
@@ -8,7 +9,7 @@ ghost use Prim.Native.Nat.{_≤_, _<_};
 ghost use lib.ListN.{length};
 ghost use Rattle.lists.specs.Lists.{total};
 ghost use Rattle.verdict.specs.Test.{mostCloseness};
-ghost use Rattle.palette.specs.Levels.{hue, intensity, binCount};
+ghost use Rattle.palette.specs.Levels.{hue, saturation, intensity, binCount};
 ghost use Rattle.palette.specs.Sound.{mostPixels};
 ghost use Rattle.dividing.specs.Sorted.{modeBase};
 ghost use Rattle.dividing.specs.Numbering.{RisesFromZero, NotPassed, Begun, PlacesNumbered, BinsNumbered, LineNumbered};
@@ -46,7 +47,7 @@ fn number_bins(separators: &[u32], opening: usize, modes: &mut [u8])
 }
 
 // The modes of a line of bins: how many there are, and each bin's.
-pub fn line_modes(h: &[u32], closeness: u32, modes: &mut [u8]) -> usize
+fn line_modes(h: &[u32], closeness: u32, modes: &mut [u8]) -> usize
     requires { ⌜ (2 ≤ length (now h)) × (length (now h) ≤ binCount intensity) × (total (now h) ≤ mostPixels) × (closeness ≤ mostCloseness) × (length (now modes) ≡ length (now h)) ⌝ }
     ensures { λ r. ⌜ LineNumbered closeness (now (h .entry)) (now (modes .exit)) r ⌝ }
 {
@@ -54,6 +55,20 @@ pub fn line_modes(h: &[u32], closeness: u32, modes: &mut [u8]) -> usize
     let n = line_separators(h, closeness, &mut separators) as usize - 1;
     number_bins(&separators[..n], 0, modes);
     n
+}
+
+pub fn intensity_modes(h: [u32; INTENSITIES], closeness: u32, modes: &mut [u8]) -> usize
+    requires { ⌜ (total h ≤ mostPixels) × (closeness ≤ mostCloseness) × (length (now modes) ≡ binCount intensity) ⌝ }
+    ensures { λ r. ⌜ BinsNumbered closeness intensity h (now (modes .exit)) r ⌝ }
+{
+    line_modes(&h, closeness, modes)
+}
+
+pub fn saturation_modes(h: [u32; SATURATIONS], closeness: u32, modes: &mut [u8]) -> usize
+    requires { ⌜ (total h ≤ mostPixels) × (closeness ≤ mostCloseness) × (length (now modes) ≡ binCount saturation) ⌝ }
+    ensures { λ r. ⌜ BinsNumbered closeness saturation h (now (modes .exit)) r ⌝ }
+{
+    line_modes(&h, closeness, modes)
 }
 
 // The hue bins are a ring, which is opened into a line.
