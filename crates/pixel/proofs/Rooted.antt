@@ -19,6 +19,6 @@ rooted-more roots x j s l w = record {
       (λ u. let z : y ≡ x = omega arith in rw (z, getD-set-same roots x j 0 (omega (arith, s .long))) w);
 }
 
--- the runs of all saturation bins are all of the table
+-- each bin's run lies within the table
 pub run-le : (j : ℕ) → j < saturationCount → (j + 1) * (j + 1) ≤ rootCount
 run-le j l = let k : j + 1 ≤ saturationCount = omega arith in omega (arith, mul-le-mul k k)

@@ -14,7 +14,7 @@ pub record RootWithin (w x j : ℕ) : Type 0 where
   pub low : j * j ≤ x
   pub high : x < (j + w) * (j + w)
 
--- the roots of the numbers below it are the saturation bins
+-- the square roots of the numbers below this, rounded down, are the saturation bins
 abbrev pub rootCount : ℕ
 rootCount = saturationCount * saturationCount
 

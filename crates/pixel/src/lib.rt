@@ -28,7 +28,7 @@ pub const SATURATIONS: usize = 42;
 
 pub const INTENSITIES: usize = 52;
 
-// The roots of these numbers are the saturation bins.
+// The square roots of the numbers below this, rounded down, are the saturation bins.
 pub const ROOTS: usize = SATURATIONS * SATURATIONS;
 
 pub struct Pixel {
