@@ -1,4 +1,4 @@
--- The worker finds the same bits as the definition: setting each bit in its place, from 2^23 down, is the same as doubling it once for each round that follows.
+-- The worker finds the same bits as the definition: setting each bit in its place, from 2^25 down, is the same as doubling it once for each round that follows.
 -- Assumes nothing.
 use Prim.Native.Nat.{ℕ, zero, suc, _+_, _*_, _/_, _^_}
 use mathlib.Core.Path.{_≡_, ap, _∙_}

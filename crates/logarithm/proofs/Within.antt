@@ -1,4 +1,4 @@
--- 2^lg ≤ x^(2^24) < 2^(lg+2), by what each round preserves: x^(2^r) lies between 2^bits times the mantissa and that times (1 + 2^-31)^(2^r - 1). Assumes nothing.
+-- 2^lg ≤ x^(2^26) < 2^(lg+2), by what each round preserves: x^(2^r) lies between 2^bits times the mantissa and that times (1 + 2^-31)^(2^r - 1). Assumes nothing.
 use Prim.Native.Nat.{ℕ, zero, suc, _+_, _*_, _-_, _/_, _^_, _≤_, _<_, zero-le}
 use mathlib.Core.Path.{_≡_, refl, sym, ap, ap₂, subst, _∙_}
 use lib.Dec.{leb, lit<, lit≤}
@@ -7,11 +7,11 @@ use native.Mathlib.Omega.{arith}
 use native.Mathlib.Nat.{add-assoc, add-comm, add-left-comm, mul-assoc, mul-comm, mul-left-comm, mul-right-comm, mul-add, add-mul, mul-one, one-mul, mul-zero, zero-mul, pow-suc, pow-zero, le-trans, le-refl, le-of-eq, lt-of-le-of-lt, lt-of-lt-of-le, le-of-lt, mul-le-mul, mul-le-mul-left, mul-le-mul-right, le-of-mul-le-mul-left, div-mul-le-self, lt-div-mul-add, mul-lt-mul-of-pos-left, mul-lt-mul-of-pos-right, mul-pos, le-of-mul-le-mul-right, lt-of-mul-lt-mul-right, suc-mul, add-zero, one-le-pow, div-lt-iff-lt-mul, le-div-iff-mul-le, mul-suc}
 use borrow.Author.Tests.{leb-true, leb-false}
 use Rattle.logarithm.specs.declared.Logarithm.{Logarithm}
-use Rattle.logarithm.specs.Log.{roundCount, unitsPerBit, floorLog}
+use Rattle.logarithm.specs.Log.{Loggable, roundCount, unitsPerBit, floorLog}
 use Rattle.logarithm.specs.Worker.{start, round, after}
 use Rattle.logarithm.specs.Bounds.{AlwaysBounded}
 use Rattle.lists.proofs.Cases.{by-cond}
-use Rattle.lists.proofs.Powers.{mul-pow}
+use Rattle.lists.proofs.Powers.{mul-pow, pow-lt-cancel}
 use Rattle.logarithm.proofs.Gathered.{lg-worker}
 
 ruleset semiring = (mul-add, add-mul, add-assoc, add-comm, add-left-comm, mul-assoc, mul-comm, mul-left-comm, mul-one, one-mul, mul-zero, zero-mul)
@@ -161,6 +161,11 @@ floor-is (suc n) x h k =
     (λ e. record { least = leb-true (2 ^ suc n) x e; most = k })
     (λ e. floor-is n x h (leb-false (2 ^ suc n) x e))
 
+-- two floors of one logarithm are equal
+pub floor-unique : (x i j : ℕ) → Floor x i → Floor x j → i ≡ j
+floor-unique x i j p q =
+    omega (arith, pow-lt-cancel i (suc j) (lt-of-le-of-lt (p .least) (q .most)), pow-lt-cancel j (suc i) (lt-of-le-of-lt (q .least) (p .most)))
+
 start-inv : (x f : ℕ) → f ≤ 31 → Floor x f → Inv x (2 ^ 31) 0 (record { mantissa = x * 2 ^ (31 - f); bits = f })
 start-inv x f l i =
     let all : f + (31 - f) ≡ 31 = omega arith in
@@ -194,5 +199,5 @@ after-high x n h k l = rw (grow-start n) at (end-high x (2 ^ 31) (grow n 0) (lit
 
 pub always-bounded : AlwaysBounded
 unfolding unitsPerBit roundCount grow
-always-bounded x h k =
-    record { low = rw lg-worker (after-low x roundCount h k); high = rw lg-worker (after-high x roundCount h k (lit≤ tt)) }
+always-bounded x v =
+    record { low = rw lg-worker (after-low x roundCount (v .low) (v .high)); high = rw lg-worker (after-high x roundCount (v .low) (v .high) (lit≤ tt)) }

@@ -1,3 +1,4 @@
 pub mod Log
 pub mod Worker
 pub mod Bounds
+pub mod Sheet

@@ -1,11 +1,16 @@
 -- The logarithm: rules L1 to L3. The number of rounds is given only here. Assumes nothing.
-use Prim.Native.Nat.{ℕ, zero, suc, _+_, _*_, _-_, _/_, _^_}
+use Prim.Native.Nat.{ℕ, zero, suc, _+_, _*_, _-_, _/_, _^_, _≤_, _<_}
 use mathlib.Core.Bool.{cond}
 use lib.Dec.{leb}
 
 -- L3: how many rounds there are
 unfoldable pub roundCount : ℕ
-roundCount = 24
+roundCount = 26
+
+-- L1: the numbers that have a logarithm
+pub record Loggable (x : ℕ) : Type 0 where
+  pub low : 1 ≤ x
+  pub high : x < 2 ^ 32
 
 -- L1: units per bit
 unfoldable pub unitsPerBit : ℕ

@@ -1,8 +1,18 @@
 // The logarithm, by repeated squaring: a state passes from round to round, and each round finds one more bit (rules L1 to L4).
+// Where the stored sheet has it, it is read from there instead (rule L5).
+mod rounds;
+mod sheet;
+
+use rounds::by_rounds;
+use rounds::four_by_rounds;
+use rounds::two_by_rounds;
+pub use sheet::SHEET_SIZE;
+pub use sheet::copied_sheet;
 ghost use mathlib.Core.Path.{_≡_};
-ghost use Prim.Native.Nat.{_≤_, _<_, _*_, _^_};
-ghost use Rattle.logarithm.specs.Log.{lg, unitsPerBit};
-ghost use Rattle.logarithm.specs.Worker.{Ready, start, round};
+ghost use Prim.Native.Nat.{_+_, _≤_, _<_, _*_, _^_};
+ghost use Rattle.logarithm.specs.Log.{Loggable, lg, unitsPerBit};
+ghost use Rattle.logarithm.specs.Sheet.{sheetSize, logSheet};
+ghost use Rattle.logarithm.specs.Worker.{Ready, TakenApart, start, round, logsOf};
 
 // The state between rounds: a mantissa of 2^31 or more and below 2^32, and the bits of the logarithm found so far.
 pub struct Logarithm {
@@ -11,9 +21,9 @@ pub struct Logarithm {
 }
 
 impl Logarithm {
-    pub const ROUNDS: u64 = 24;
+    pub const ROUNDS: u64 = 26;
 
-    pub const UNITS_PER_BIT: u64 = 16777216;
+    pub const UNITS_PER_BIT: u64 = 67108864;
 
     // Whole bits, converted to units.
     pub fn units(bits: u64) -> u64
@@ -25,7 +35,7 @@ impl Logarithm {
 
     // The number scaled to 32 bits, and the floor of its logarithm.
     pub fn start(x: u64) -> Self
-        requires { ⌜ (1 ≤ x) × (x < 2 ^ 32) ⌝ }
+        requires { ⌜ Loggable x ⌝ }
         ensures { λ r. ⌜ r ≡ start x ⌝ }
     {
         let zeros = u64::leading_zeros(x);
@@ -55,52 +65,101 @@ impl Logarithm {
     }
 }
 
-// The logarithm of a number below 2^32, in units of 1/UNITS_PER_BIT of a bit.
-pub fn lg(x: u64) -> u64
-    requires { ⌜ (1 ≤ x) × (x < 2 ^ 32) ⌝ }
-    ensures { λ r. ⌜ r ≡ lg x ⌝ }
-{
-    let mut s = Logarithm::start(x);
-    let mut i = 0;
-    while i < Logarithm::ROUNDS {
-        s = s.round();
-        i += 1;
-    }
-    s.bits
+// Two workers, to do their rounds side by side.
+pub struct Two {
+    pub a: Logarithm,
+    pub b: Logarithm,
 }
 
-// The logarithms of four numbers.
+// An odd number times a power of 2.
+pub struct Odd {
+    pub odd: u64,
+    pub twos: u64,
+}
+
+// The logarithms of two numbers, and of twice two.
 pub struct Logs {
     pub a: u64,
     pub b: u64,
-    pub c: u64,
-    pub d: u64,
 }
 
-// Four logarithms side by side in one loop: while one waits for its last squaring, the other three go on.
-pub fn lg_four(a: u64, b: u64, c: u64, d: u64) -> Logs
-    requires { ⌜ (1 ≤ a) × (a < 2 ^ 32) ⌝ }
-    requires { ⌜ (1 ≤ b) × (b < 2 ^ 32) ⌝ }
-    requires { ⌜ (1 ≤ c) × (c < 2 ^ 32) ⌝ }
-    requires { ⌜ (1 ≤ d) × (d < 2 ^ 32) ⌝ }
-    ensures { λ r. ⌜ r ≡ record { a = lg a; b = lg b; c = lg c; d = lg d } ⌝ }
+pub struct FourLogs {
+    pub first: Logs,
+    pub second: Logs,
+}
+
+fn wide(x: u32) -> u64
+    ensures { λ r. ⌜ r ≡ x ⌝ }
 {
-    let mut s = Logarithm::start(a);
-    let mut t = Logarithm::start(b);
-    let mut u = Logarithm::start(c);
-    let mut v = Logarithm::start(d);
-    let mut i = 0;
-    while i < Logarithm::ROUNDS {
-        s = s.round();
-        t = t.round();
-        u = u.round();
-        v = v.round();
-        i += 1;
+    x as u64
+}
+
+// A number without its factors of 2, and how many there are.
+fn take_apart(x: u64) -> Odd
+    requires { ⌜ Loggable x ⌝ }
+    ensures { λ r. ⌜ TakenApart x r ⌝ }
+{
+    let zeros = u64::trailing_zeros(x);
+    Odd {
+        odd: x >> zeros,
+        twos: zeros as u64,
+    }
+}
+
+// The logarithm of a number whose odd part is on the sheet: one more bit for each factor of 2.
+fn read(sheet: &[u32; SHEET_SIZE], p: Odd) -> u64
+    requires { ⌜ (now sheet ≡ logSheet) × (1 ≤ p .odd) × (p .odd ≤ sheetSize) × (p .twos < 32) ⌝ }
+    ensures { λ r. ⌜ r ≡ lg (p .odd) + p .twos * unitsPerBit ⌝ }
+{
+    let place = (p.odd - 1) as usize;
+    wide(sheet[place]) + Logarithm::units(p.twos)
+}
+
+// The logarithm of a number below 2^32, in units of 1/UNITS_PER_BIT of a bit.
+pub fn lg(sheet: &[u32; SHEET_SIZE], x: u64) -> u64
+    requires { ⌜ (now sheet ≡ logSheet) × Loggable x ⌝ }
+    ensures { λ r. ⌜ r ≡ lg x ⌝ }
+{
+    let p = take_apart(x);
+    if p.odd <= SHEET_SIZE as u64 {
+        return read(sheet, p);
+    }
+    by_rounds(x)
+}
+
+// Neither logarithm can be read from the sheet. What this says decides only on the faster way: each way gives the logarithm.
+fn both_past(a: u64, b: u64) -> bool
+    requires { ⌜ Loggable a × Loggable b ⌝ }
+{
+    let p = take_apart(a);
+    let q = take_apart(b);
+    (p.odd > SHEET_SIZE as u64) & (q.odd > SHEET_SIZE as u64)
+}
+
+// Two logarithms, side by side if neither can be read.
+pub fn lg_two(sheet: &[u32; SHEET_SIZE], a: u64, b: u64) -> Logs
+    requires { ⌜ (now sheet ≡ logSheet) × Loggable a × Loggable b ⌝ }
+    ensures { λ r. ⌜ r ≡ logsOf a b ⌝ }
+{
+    if both_past(a, b) {
+        return two_by_rounds(a, b);
     }
     Logs {
-        a: s.bits,
-        b: t.bits,
-        c: u.bits,
-        d: v.bits,
+        a: lg(sheet, a),
+        b: lg(sheet, b),
+    }
+}
+
+// Four logarithms, side by side if none can be read.
+pub fn lg_four(sheet: &[u32; SHEET_SIZE], a: u64, b: u64, c: u64, d: u64) -> FourLogs
+    requires { ⌜ (now sheet ≡ logSheet) × Loggable a × Loggable b × Loggable c × Loggable d ⌝ }
+    ensures { λ r. ⌜ r ≡ record { first = logsOf a b; second = logsOf c d } ⌝ }
+{
+    if both_past(a, b) & both_past(c, d) {
+        return four_by_rounds(a, b, c, d);
+    }
+    FourLogs {
+        first: lg_two(sheet, a, b),
+        second: lg_two(sheet, c, d),
     }
 }

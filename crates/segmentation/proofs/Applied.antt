@@ -11,7 +11,7 @@ use lib.ListN.{length, take, drop, getD}
 use lib.Seq.{paste}
 use Rattle.lists.proofs.Cases.{by-cond}
 use Rattle.lists.proofs.Shifts.{shift-before, shift-at}
-use Rattle.lists.specs.Lists.{maybe}
+use Rattle.lists.specs.Lists.{numbers, firstThat, maybe}
 use Rattle.verdict.specs.Test.{Closeness}
 use Rattle.segmentation.specs.Segments.{Segment, segmentAt, firstSegments}
 use Rattle.segmentation.specs.Joining.{Reader, lineReader, Join, joined, join, nextJoin, joinAll, lineModes}
@@ -165,6 +165,11 @@ module _ (e : Closeness) (read : Reader) where
   unfolding joinAll
   joins-none zero ss q = refl
   joins-none (suc n) ss q = ap (maybe ss (λ j. joinAll n e read (join ss j))) q
+
+  -- a single segment has nothing to join
+  pub one-joins-none : (ss : List Segment) → length ss ≤ 1 → nextJoin e read ss ≡ none
+  unfolding nextJoin numbers firstThat
+  one-joins-none ss l = let z : length ss - 1 ≡ 0 = omega arith in rw z refl
 
   joins-more : (n : ℕ) (ss : List Segment) (j : Join) → nextJoin e read ss ≡ some j → joinAll (suc n) e read ss ≡ joinAll n e read (join ss j)
   unfolding joinAll

@@ -7,6 +7,7 @@ use mathlib.Core.Option.{Option, none, some}
 use lib.ListN.{length}
 use lib.IntN.{ℤ, pos}
 use lib.Signed.{ltZ, mag, _≤ℤ_}
+use Rattle.logarithm.specs.Sheet.{logSheet}
 use Rattle.verdict.specs.Test.{Closeness, mostCloseness}
 use Rattle.verdict.specs.Scratch.{Small}
 use Rattle.segmentation.specs.declared.Found.{Found}
@@ -14,8 +15,9 @@ use Rattle.segmentation.specs.Joining.{Join}
 use Rattle.segmentation.specs.Finished.{Cut}
 use Rattle.segmentation.specs.Held.{segmentsHeld}
 
--- a line h, and two lists that hold its n segments
-pub record LineHeld (e : Closeness) (h separators peaks : List ℕ) (n : ℕ) : Type 0 where
+-- a line h, two lists that hold its n segments, and the sheet of logarithms
+pub record LineHeld (sheet : List ℕ) (e : Closeness) (h separators peaks : List ℕ) (n : ℕ) : Type 0 where
+  pub logs : sheet ≡ logSheet
   pub small : Small h
   pub close : e ≤ mostCloseness
   pub places : (n < length separators) × (n ≤ length peaks)

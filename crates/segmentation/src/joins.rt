@@ -2,10 +2,13 @@
 use crate::Join;
 use crate::first::first_segments;
 use crate::runs::next_join;
+use logarithm::SHEET_SIZE;
+use logarithm::copied_sheet;
 ghost use mathlib.Core.Path.{_≡_};
 ghost use Prim.Native.Nat.{_+_, _-_, _≤_, _<_};
 ghost use lib.ListN.{length, drop};
 ghost use lib.Seq.{paste};
+ghost use Rattle.logarithm.specs.Sheet.{logSheet};
 ghost use Rattle.verdict.specs.Test.{mostCloseness};
 ghost use Rattle.verdict.specs.Scratch.{Small};
 ghost use Rattle.segmentation.specs.Joining.{lineReader, join, joinAll, lineModes};
@@ -42,6 +45,7 @@ pub fn apply(separators: &mut [u32], peaks: &mut [u32], n: usize, j: Join) -> us
 
 // Joins until no run is joinable. Returns how many segments there are then.
 pub fn join_all(
+    sheet: &[u32; SHEET_SIZE],
     h: &[u32],
     closeness: u32,
     separators: &mut [u32],
@@ -49,7 +53,7 @@ pub fn join_all(
     n: usize,
 ) -> usize
     requires { ⌜ Small (now h) ⌝ }
-    requires { ⌜ closeness ≤ mostCloseness ⌝ }
+    requires { ⌜ (closeness ≤ mostCloseness) × (now sheet ≡ logSheet) ⌝ }
     requires { ⌜ (n < length (now separators)) × (n ≤ length (now peaks)) ⌝ }
     requires { ⌜ Cut (length (now h)) (segmentsHeld (now separators) (now peaks) 0 n) ⌝ }
     ensures { λ r. ⌜ (segmentsHeld (now (separators .exit)) (now (peaks .exit)) 0 r
@@ -58,7 +62,7 @@ pub fn join_all(
 {
     let mut left = n;
     loop {
-        let next = next_join(h, closeness, separators, peaks, left);
+        let next = next_join(sheet, h, closeness, separators, peaks, left);
         if !next.found {
             return left;
         }
@@ -66,7 +70,7 @@ pub fn join_all(
     }
 }
 
-// Writes the modes of a line. Returns how many there are.
+// Writes the modes of a line. Returns how many there are. A single segment has nothing to join, and needs no sheet.
 pub fn line(h: &[u32], closeness: u32, separators: &mut [u32], peaks: &mut [u32]) -> usize
     requires { ⌜ Small (now h) ⌝ }
     requires { ⌜ (2 ≤ length (now h)) × (closeness ≤ mostCloseness) ⌝ }
@@ -74,5 +78,9 @@ pub fn line(h: &[u32], closeness: u32, separators: &mut [u32], peaks: &mut [u32]
     ensures { λ r. ⌜ segmentsHeld (now (separators .exit)) (now (peaks .exit)) 0 r ≡ lineModes closeness (now (h .entry)) ⌝ }
 {
     let n = first_segments(h, separators, peaks);
-    join_all(h, closeness, separators, peaks, n)
+    if n < 2 {
+        return n;
+    }
+    let sheet = copied_sheet();
+    join_all(&sheet, h, closeness, separators, peaks, n)
 }

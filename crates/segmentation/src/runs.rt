@@ -1,6 +1,7 @@
 // The search for the next join.
 use crate::Found;
 use crate::Join;
+use logarithm::SHEET_SIZE;
 use verdict::capped_cost;
 ghost use mathlib.Core.Path.{_≡_};
 ghost use mathlib.Core.Bool.{false, cond};
@@ -9,6 +10,7 @@ ghost use lib.ListN.{length};
 ghost use lib.IntN.{pos};
 ghost use lib.Signed.{ltZ, mag};
 ghost use Rattle.lists.specs.Lists.{part};
+ghost use Rattle.logarithm.specs.Sheet.{logSheet};
 ghost use Rattle.pooling.specs.Blocks.{direction};
 ghost use Rattle.verdict.specs.Test.{cost, mostCloseness};
 ghost use Rattle.verdict.specs.Scratch.{Small, Capped};
@@ -44,16 +46,25 @@ fn by_costs(i: usize, len: usize, rise: i64, fall: i64) -> Join
 }
 
 // The cost of the stretch from bin i to bin j, where only a cost below the cap matters.
-fn stretch_cost(h: &[u32], rising: bool, closeness: u32, i: usize, j: usize, cap: i64) -> i64
+fn stretch_cost(
+    sheet: &[u32; SHEET_SIZE],
+    h: &[u32],
+    rising: bool,
+    closeness: u32,
+    i: usize,
+    j: usize,
+    cap: i64,
+) -> i64
     requires { ⌜ Small (now h) ⌝ }
-    requires { ⌜ (i ≤ j) × (j < length (now h)) × (closeness ≤ mostCloseness) × (mag cap < 2 ^ 62) ⌝ }
+    requires { ⌜ (i ≤ j) × (j < length (now h)) × (closeness ≤ mostCloseness) × (mag cap < 2 ^ 62) × (now sheet ≡ logSheet) ⌝ }
     ensures { λ r. ⌜ Capped cap (cost closeness (direction rising) (part i j (now (h .entry)))) r ⌝ }
 {
-    capped_cost(&h[i..j + 1], rising, closeness, cap)
+    capped_cost(sheet, &h[i..j + 1], rising, closeness, cap)
 }
 
 // The run of len segments from segment i on, where only a cost below `least` matters.
 fn run(
+    sheet: &[u32; SHEET_SIZE],
     h: &[u32],
     closeness: u32,
     separators: &[u32],
@@ -63,7 +74,7 @@ fn run(
     len: usize,
     least: i64,
 ) -> Join
-    requires { ⌜ LineHeld closeness (now h) (now separators) (now peaks) n ⌝ }
+    requires { ⌜ LineHeld (now sheet) closeness (now h) (now separators) (now peaks) n ⌝ }
     requires { ⌜ (1 ≤ len) × (i + len ≤ n) × (mag least < 2 ^ 62) ⌝ }
     ensures { λ r. ⌜ RunBelow least (joinOf closeness (lineReader (now (h .entry))) (segmentsHeld (now (separators .entry)) (now (peaks .entry)) 0 n) i len) r ⌝ }
 {
@@ -71,9 +82,9 @@ fn run(
     let end = wide(separators[i + len]);
     let start = wide(separators[i]);
     let last_peak = wide(peaks[i + len - 1]);
-    let fall = stretch_cost(h, false, closeness, first_peak, end, least);
+    let fall = stretch_cost(sheet, h, false, closeness, first_peak, end, least);
     let cap = smaller(fall, least);
-    let rise = stretch_cost(h, true, closeness, start, last_peak, cap);
+    let rise = stretch_cost(sheet, h, true, closeness, start, last_peak, cap);
     by_costs(i, len, rise, fall)
 }
 
@@ -107,6 +118,7 @@ fn better(best: Found, next: Join) -> Found
 
 // Of all runs of len segments, the leftmost one of the lowest cost, if that cost is below 0.
 fn cheapest_below(
+    sheet: &[u32; SHEET_SIZE],
     h: &[u32],
     closeness: u32,
     separators: &[u32],
@@ -114,7 +126,7 @@ fn cheapest_below(
     n: usize,
     len: usize,
 ) -> Found
-    requires { ⌜ LineHeld closeness (now h) (now separators) (now peaks) n ⌝ }
+    requires { ⌜ LineHeld (now sheet) closeness (now h) (now separators) (now peaks) n ⌝ }
     requires { ⌜ (1 ≤ len) × (len ≤ n) ⌝ }
     ensures { λ r. ⌜ joinFound (r .found) (r .join) ≡ whereBelow (cheapest closeness (lineReader (now (h .entry))) (segmentsHeld (now (separators .entry)) (now (peaks .entry)) 0 n) len) ⌝ }
 {
@@ -122,23 +134,33 @@ fn cheapest_below(
     let mut i = 0;
     while i + len <= n {
         let least = best.join.cost;
-        best = better(best, run(h, closeness, separators, peaks, n, i, len, least));
+        best = better(
+            best,
+            run(sheet, h, closeness, separators, peaks, n, i, len, least),
+        );
         i += 1;
     }
     best
 }
 
 // The next join, if there is one.
-pub fn next_join(h: &[u32], closeness: u32, separators: &[u32], peaks: &[u32], n: usize) -> Found
+pub fn next_join(
+    sheet: &[u32; SHEET_SIZE],
+    h: &[u32],
+    closeness: u32,
+    separators: &[u32],
+    peaks: &[u32],
+    n: usize,
+) -> Found
     requires { ⌜ Small (now h) ⌝ }
-    requires { ⌜ closeness ≤ mostCloseness ⌝ }
+    requires { ⌜ (closeness ≤ mostCloseness) × (now sheet ≡ logSheet) ⌝ }
     requires { ⌜ (n < length (now separators)) × (n ≤ length (now peaks)) ⌝ }
     requires { ⌜ Cut (length (now h)) (segmentsHeld (now separators) (now peaks) 0 n) ⌝ }
     ensures { λ r. ⌜ joinFound (r .found) (r .join) ≡ nextJoin closeness (lineReader (now (h .entry))) (segmentsHeld (now (separators .entry)) (now (peaks .entry)) 0 n) ⌝ }
 {
     let mut len = 2;
     while len <= n {
-        let best = cheapest_below(h, closeness, separators, peaks, n, len);
+        let best = cheapest_below(sheet, h, closeness, separators, peaks, n, len);
         if best.found {
             return best;
         }

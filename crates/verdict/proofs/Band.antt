@@ -22,7 +22,7 @@ use Rattle.pooling.specs.Blocks.{Direction, blocks}
 use Rattle.verdict.specs.declared.Mass.{Mass}
 use Rattle.verdict.specs.Test.{Closeness, fittedMass, weight, partWeight, bar, largestWeight, cost, rejected}
 use Rattle.verdict.specs.Exactness.{observed, expected, exactBar, LogsDefined, partX, partBar, Exact}
-use Rattle.verdict.proofs.Terms.{observedLog, expectedLog, Ranged, counted, massed, remaining, parts-range}
+use Rattle.verdict.proofs.Terms.{observedLog, expectedLog, Ranged, loggable, counted, massed, remaining, parts-range}
 use Rattle.verdict.proofs.Largest.{largest-part, part-largest}
 
 -- ---- a power of x against the factor times the logarithm
@@ -34,13 +34,13 @@ term-low : (k x : ℕ) → Ranged k x → 2 ^ (k * lg x) ≤ (x ^ k) ^ unitsPerB
 term-low zero x r = le-of-eq (ap (λ (n : ℕ). 2 ^ n) (zero-mul (lg x)) ∙ pow-zero 2 ∙ sym (none x))
 term-low (suc k) x r =
     le-trans (le-of-eq (ap (λ (n : ℕ). 2 ^ n) (mul-comm (suc k) (lg x)) ∙ sym (pow-pow 2 (lg x) (suc k))))
-    (le-trans (pow-le-pow-left (always-bounded x (r .some (omega arith)) (r .below) .low) (suc k)) (le-of-eq (pow-swap x unitsPerBit (suc k))))
+    (le-trans (pow-le-pow-left (always-bounded x (loggable r (omega arith)) .low) (suc k)) (le-of-eq (pow-swap x unitsPerBit (suc k))))
 
 term-high : (k x : ℕ) → Ranged k x → (x ^ k) ^ unitsPerBit ≤ 2 ^ (k * lg x + 2 * k)
 term-high zero x r = le-trans (le-of-eq (none x)) (pow-pos (0 * lg x + 2 * 0))
 term-high (suc k) x r =
     le-trans (le-of-eq (pow-swap x (suc k) unitsPerBit))
-    (le-trans (pow-le-pow-left (le-of-lt (always-bounded x (r .some (omega arith)) (r .below) .high)) (suc k))
+    (le-trans (pow-le-pow-left (le-of-lt (always-bounded x (loggable r (omega arith)) .high)) (suc k))
     (le-of-eq (pow-pow 2 (lg x + 2) (suc k) ∙ ap (λ (n : ℕ). 2 ^ n) (spread (lg x)))))
   where
     spread : (l : ℕ) → (l + 2) * suc k ≡ suc k * l + 2 * suc k
@@ -86,7 +86,7 @@ weight-reaches t n k m = difference-reaches t (observedLog n k m) (expectedLog n
 -- ---- the bar; l bins have l(l+1)/2 parts, within the logarithm's range
 module _ (e l : ℕ) (least : 2 ≤ l) (most : l ≤ 257) where
   parts-bounded : Bounded (l * suc l / 2)
-  parts-bounded = let r = parts-range l (omega arith) most in always-bounded (l * suc l / 2) (r .some) (r .below)
+  parts-bounded = always-bounded (l * suc l / 2) (parts-range l (omega arith) most)
 
   split : exactBar e l ^ unitsPerBit ≡ 2 ^ (e * unitsPerBit) * (l * suc l / 2) ^ unitsPerBit
   unfolding exactBar

@@ -5,20 +5,20 @@ use native.Mathlib.Omega.{arith}
 use lib.Dec.{lit≤}
 use lib.Signed.{mag}
 use Rattle.lists.proofs.Signed.{difference-below}
-use Rattle.logarithm.specs.Log.{lg, unitsPerBit, roundCount}
+use Rattle.logarithm.specs.Log.{Loggable, lg, unitsPerBit, roundCount}
 use Rattle.logarithm.proofs.Laws.{lg-below}
 use Rattle.verdict.specs.declared.Mass.{Mass}
 use Rattle.verdict.specs.Test.{Closeness, mostCloseness, weight, bar}
 use Rattle.verdict.specs.Exactness.{LogsDefined}
-use Rattle.verdict.proofs.Terms.{observedLog, expectedLog, Ranged, counted, massed, remaining, parts-range}
+use Rattle.verdict.proofs.Terms.{observedLog, expectedLog, Ranged, loggable, counted, massed, remaining, parts-range}
 
 -- room for finer units too
 units-small : unitsPerBit ≤ 2 ^ 40
 unfolding unitsPerBit roundCount
 units-small = lit≤ tt
 
-lg-small : (x : ℕ) → 1 ≤ x → x < 2 ^ 32 → lg x ≤ 2 ^ 45
-lg-small x h k = omega (arith, lg-below x h k, units-small)
+lg-small : (x : ℕ) → Loggable x → lg x ≤ 2 ^ 45
+lg-small x v = omega (arith, lg-below x v, units-small)
 
 -- room for wider ranges too
 pub closeness-small : {e : Closeness} → e ≤ mostCloseness → e ≤ 32
@@ -29,19 +29,18 @@ closeness-units : (e : Closeness) → e ≤ mostCloseness → e * unitsPerBit �
 closeness-units e h = mul-le-mul (closeness-small h) units-small
 
 -- a count times a logarithm
-pub term-small : (n x : ℕ) → 1 ≤ x → x < 2 ^ 32 → n * lg x ≤ n * 2 ^ 45
-term-small n x h k = mul-le-mul-left n (lg-small x h k)
+pub term-small : (n x : ℕ) → Loggable x → n * lg x ≤ n * 2 ^ 45
+term-small n x v = mul-le-mul-left n (lg-small x v)
 
 pub bar-small : (e : Closeness) (l : ℕ) → e ≤ mostCloseness → 1 ≤ l → l ≤ 257 → bar e l ≤ 2 ^ 46
 unfolding bar
 bar-small e l a b c =
-    let r = parts-range l b c in
-    omega (arith, lg-small (l * suc l / 2) (r .some) (r .below), closeness-units e a)
+    omega (arith, lg-small (l * suc l / 2) (parts-range l b c), closeness-units e a)
 
 -- ---- a weight
 term-ranged : (f x : ℕ) → Ranged f x → f * lg x ≤ f * 2 ^ 45
 term-ranged zero x r = rw (zero-mul, zero-mul) (le-refl 0)
-term-ranged (suc f) x r = term-small (suc f) x (r .some (omega arith)) (r .below)
+term-ranged (suc f) x r = term-small (suc f) x (loggable r (omega arith))
 
 -- with room for the bar
 pub weight-small : (n k : ℕ) (m : Mass) → LogsDefined n k m → n ≤ 98304 → mag (weight n k m) < 2 ^ 62 - 2 ^ 46

@@ -1,13 +1,12 @@
 -- The terms of a weight and of a bar: what they are, and that each logarithm is taken of a number in its range. Assumes nothing.
 --   Ranged k x    x is in the range if its factor k is not 0
---   Logged x      x has a logarithm
 use Prim.Native.Nat.{ℕ, zero, suc, _+_, _*_, _-_, _/_, _^_, _≤_, _<_}
 use mathlib.Core.Path.{_≡_, refl, sym, ap, _∙_}
 use native.Mathlib.Nat.{le-refl, sub-zero, sub-self, zero-mul, zero-add, add-zero, mul-le-mul, mul-le-mul-right, mul-pos, lt-of-le-of-lt}
 use native.Mathlib.Omega.{arith}
 use lib.IntN.{pos, subℕ, +ℤ-invr}
 use Rattle.lists.proofs.Signed.{difference-is}
-use Rattle.logarithm.specs.Log.{lg}
+use Rattle.logarithm.specs.Log.{Loggable, lg}
 use Rattle.verdict.specs.declared.Mass.{Mass}
 use Rattle.verdict.specs.Test.{weight}
 use Rattle.verdict.specs.Exactness.{LogsDefined}
@@ -44,12 +43,8 @@ pub record Ranged (k x : ℕ) : Type 0 where
   pub some : 0 < k → 0 < x
   pub below : x < 2 ^ 32
 
-pub record Logged (x : ℕ) : Type 0 where
-  pub some : 1 ≤ x
-  pub below : x < 2 ^ 32
-
-pub logged : {k x : ℕ} → Ranged k x → 0 < k → Logged x
-logged r h = record { some = r .some h; below = r .below }
+pub loggable : {k x : ℕ} → Ranged k x → 0 < k → Loggable x
+loggable r h = record { low = r .some h; high = r .below }
 
 module _ (n k : ℕ) (m : Mass) (r : LogsDefined n k m) where
   -- j of the n counts, times B
@@ -66,30 +61,30 @@ module _ (n k : ℕ) (m : Mass) (r : LogsDefined n k m) where
       left h = omega arith
 
   -- no counts in the part, all of them, and some but not all
-  pub logged-none : k ≡ 0 → ¬ (m .num ≡ k * m .den) → Logged (n * m .den) × Logged (n * m .den - m .num)
-  logged-none z d = let l : k < n = counts n refl in (logged (counted n (le-refl n)) (omega arith), logged remaining (omega arith))
+  pub logged-none : k ≡ 0 → ¬ (m .num ≡ k * m .den) → Loggable (n * m .den) × Loggable (n * m .den - m .num)
+  logged-none z d = let l : k < n = counts n refl in (loggable (counted n (le-refl n)) (omega arith), loggable remaining (omega arith))
     where
       counts : (c : ℕ) → n ≡ c → k < n
       counts zero e = absurd (d (omega (arith, r .within, ap (λ (x : ℕ). x * m .den) e, ap (λ (x : ℕ). x * m .den) z)))
       counts (suc c) e = omega arith
 
-  pub logged-all : k ≡ n → ¬ (k ≡ 0) → Logged (k * m .den) × Logged (m .num)
-  logged-all e d = let h : 0 < k = omega arith in (logged (counted k (r .partial)) h, logged massed h)
+  pub logged-all : k ≡ n → ¬ (k ≡ 0) → Loggable (k * m .den) × Loggable (m .num)
+  logged-all e d = let h : 0 < k = omega arith in (loggable (counted k (r .partial)) h, loggable massed h)
 
   pub logged-both : ¬ (k ≡ 0) → ¬ (k ≡ n)
-      → (Logged (k * m .den) × Logged ((n - k) * m .den)) × (Logged (m .num) × Logged (n * m .den - m .num))
+      → (Loggable (k * m .den) × Loggable (m .num)) × (Loggable ((n - k) * m .den) × Loggable (n * m .den - m .num))
   logged-both a b =
       let h : 0 < k = omega arith in
       let u : 0 < n - k = omega (arith, r .partial) in (
-        (logged (counted k (r .partial)) h, logged (counted (n - k) (omega arith)) u),
-        (logged massed h, logged remaining u),
+        (loggable (counted k (r .partial)) h, loggable massed h),
+        (loggable (counted (n - k) (omega arith)) u, loggable remaining u),
       )
 
 -- ---- the number of a stretch's parts
-pub parts-range : (l : ℕ) → 1 ≤ l → l ≤ 257 → Logged (l * suc l / 2)
+pub parts-range : (l : ℕ) → 1 ≤ l → l ≤ 257 → Loggable (l * suc l / 2)
 parts-range l h k =
     let more : suc l ≤ 258 = omega arith in
     let some : 2 ≤ suc l = omega arith in
     let up : l * suc l ≤ 257 * 258 = mul-le-mul k more in
     let low : 1 * 2 ≤ l * suc l = mul-le-mul h some in
-    record { some = omega arith; below = omega arith }
+    record { low = omega arith; high = omega arith }

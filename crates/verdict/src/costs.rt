@@ -7,11 +7,13 @@ use crate::signed::less;
 use crate::signed::sum;
 use crate::weights::bar;
 use crate::weights::weight;
+use logarithm::SHEET_SIZE;
 use pooling::fit_places;
 ghost use mathlib.Core.Path.{_≡_};
 ghost use Prim.Native.Nat.{suc, _^_, _≤_, _<_};
 ghost use lib.ListN.{length};
 ghost use lib.Signed.{ltZ, mag, _≤ℤ_};
+ghost use Rattle.logarithm.specs.Sheet.{logSheet};
 ghost use Rattle.pooling.specs.Blocks.{direction, blocks};
 ghost use Rattle.verdict.specs.Test.{partWeight, cost, mostCloseness};
 ghost use Rattle.verdict.specs.Scratch.{Small, Scratch, Capped, Attained, BestOf, EndingAt, firstOf, endOf, Turn, Part};
@@ -21,6 +23,7 @@ const NO_CAP: i64 = 4611686018427387903;
 
 // The weight of the part from bin i to bin j.
 fn part_weight(
+    sheet: &[u32; SHEET_SIZE],
     h: &[u32],
     rising: bool,
     before: &[u32; 258],
@@ -31,12 +34,17 @@ fn part_weight(
     j: usize,
 ) -> i64
     requires { ⌜ Scratch (direction rising) (now h) (now before) (now starts) (now sums) (now lens) ⌝ }
-    requires { ⌜ (i ≤ j) × (j < length (now h)) ⌝ }
+    requires { ⌜ (i ≤ j) × (j < length (now h)) × (now sheet ≡ logSheet) ⌝ }
     ensures { λ r. ⌜ r ≡ partWeight (now (h .entry)) (blocks (direction rising) (now (h .entry))) i j ⌝ }
 {
     let n = wide(before[h.len()]);
     let k = wide(before[j + 1] - before[i]);
-    weight(n, k, part_mass(h, rising, before, starts, sums, lens, i, j))
+    weight(
+        sheet,
+        n,
+        k,
+        part_mass(h, rising, before, starts, sums, lens, i, j),
+    )
 }
 
 // x is below y.
@@ -48,6 +56,7 @@ fn is_below(x: i64, y: i64) -> bool
 
 // The best weight after the parts that end at bin j and begin from bin `first` up to, but not including, `end`. The search stops once it reaches the limit.
 fn best_ending_at(
+    sheet: &[u32; SHEET_SIZE],
     h: &[u32],
     rising: bool,
     before: &[u32; 258],
@@ -61,7 +70,7 @@ fn best_ending_at(
     limit: i64,
 ) -> i64
     requires { ⌜ Scratch (direction rising) (now h) (now before) (now starts) (now sums) (now lens) ⌝ }
-    requires { ⌜ (j < length (now h)) × (end ≤ suc j) ⌝ }
+    requires { ⌜ (j < length (now h)) × (end ≤ suc j) × (now sheet ≡ logSheet) ⌝ }
     requires { ⌜ Attained (now h) (blocks (direction rising) (now h)) best ⌝ }
     ensures { λ r. ⌜ best ≤ℤ r ⌝ }
     ensures { λ r. ⌜ BestOf (now (h .entry)) (blocks (direction rising) (now (h .entry))) limit (EndingAt j first end) r ⌝ }
@@ -74,7 +83,7 @@ fn best_ending_at(
         }
         found = larger(
             found,
-            part_weight(h, rising, before, starts, sums, lens, i, j),
+            part_weight(sheet, h, rising, before, starts, sums, lens, i, j),
         );
         i += 1;
     }
@@ -97,6 +106,7 @@ fn end_of(within: bool, start: usize, j: usize) -> usize
 
 // The best weight after all parts within one block, or after all parts across blocks. The search stops once it reaches the limit.
 fn best_in_turn(
+    sheet: &[u32; SHEET_SIZE],
     h: &[u32],
     rising: bool,
     before: &[u32; 258],
@@ -108,7 +118,7 @@ fn best_in_turn(
     limit: i64,
 ) -> i64
     requires { ⌜ Scratch (direction rising) (now h) (now before) (now starts) (now sums) (now lens) ⌝ }
-    requires { ⌜ Attained (now h) (blocks (direction rising) (now h)) best ⌝ }
+    requires { ⌜ Attained (now h) (blocks (direction rising) (now h)) best × (now sheet ≡ logSheet) ⌝ }
     ensures { λ r. ⌜ best ≤ℤ r ⌝ }
     ensures { λ r. ⌜ BestOf (now (h .entry)) (blocks (direction rising) (now (h .entry))) limit (Turn within (now (starts .entry)) (length (now (h .entry)))) r ⌝ }
 {
@@ -120,6 +130,7 @@ fn best_in_turn(
         }
         let start = wide(starts[j]) as usize;
         found = best_ending_at(
+            sheet,
             h,
             rising,
             before,
@@ -140,6 +151,7 @@ fn best_in_turn(
 // The best weight of all parts, up to the limit. Parts within a block are likelier to reach it, so they come first.
 // The search begins with the whole stretch, whose weight needs no logarithm.
 fn best_weight(
+    sheet: &[u32; SHEET_SIZE],
     h: &[u32],
     rising: bool,
     before: &[u32; 258],
@@ -149,19 +161,47 @@ fn best_weight(
     limit: i64,
 ) -> i64
     requires { ⌜ Scratch (direction rising) (now h) (now before) (now starts) (now sums) (now lens) ⌝ }
-    requires { ⌜ 1 ≤ length (now h) ⌝ }
+    requires { ⌜ (1 ≤ length (now h)) × (now sheet ≡ logSheet) ⌝ }
     ensures { λ r. ⌜ BestOf (now (h .entry)) (blocks (direction rising) (now (h .entry))) limit (Part (now (h .entry))) r ⌝ }
 {
-    let whole = part_weight(h, rising, before, starts, sums, lens, 0, h.len() - 1);
-    let inside = best_in_turn(h, rising, before, starts, sums, lens, true, whole, limit);
-    best_in_turn(h, rising, before, starts, sums, lens, false, inside, limit)
+    let whole = part_weight(sheet, h, rising, before, starts, sums, lens, 0, h.len() - 1);
+    let inside = best_in_turn(
+        sheet,
+        h,
+        rising,
+        before,
+        starts,
+        sums,
+        lens,
+        true,
+        whole,
+        limit,
+    );
+    best_in_turn(
+        sheet,
+        h,
+        rising,
+        before,
+        starts,
+        sums,
+        lens,
+        false,
+        inside,
+        limit,
+    )
 }
 
 // The cost of a stretch of one bin or more, if that is below the cap; otherwise the cap or more.
-pub fn capped_cost(h: &[u32], rising: bool, closeness: u32, cap: i64) -> i64
+pub fn capped_cost(
+    sheet: &[u32; SHEET_SIZE],
+    h: &[u32],
+    rising: bool,
+    closeness: u32,
+    cap: i64,
+) -> i64
     requires { ⌜ Small (now h) ⌝ }
     requires { ⌜ (1 ≤ length (now h)) × (closeness ≤ mostCloseness) ⌝ }
-    requires { ⌜ mag cap < 2 ^ 62 ⌝ }
+    requires { ⌜ (mag cap < 2 ^ 62) × (now sheet ≡ logSheet) ⌝ }
     ensures { λ r. ⌜ Capped cap (cost closeness (direction rising) (now (h .entry))) r ⌝ }
 {
     let mut before = [0u32; 258];
@@ -170,8 +210,17 @@ pub fn capped_cost(h: &[u32], rising: bool, closeness: u32, cap: i64) -> i64
     let mut lens = [0u32; 257];
     running_totals(h, &mut before);
     fit_places(h, rising, &mut starts, &mut sums, &mut lens);
-    let height = bar(closeness as u64, h.len() as u64);
-    let best = best_weight(h, rising, &before, &starts, &sums, &lens, sum(cap, height));
+    let height = bar(sheet, closeness as u64, h.len() as u64);
+    let best = best_weight(
+        sheet,
+        h,
+        rising,
+        &before,
+        &starts,
+        &sums,
+        &lens,
+        sum(cap, height),
+    );
     less(best, height)
 }
 
@@ -181,5 +230,6 @@ pub fn cost(h: &[u32], rising: bool, closeness: u32) -> i64
     requires { ⌜ (1 ≤ length (now h)) × (closeness ≤ mostCloseness) ⌝ }
     ensures { λ r. ⌜ r ≡ cost closeness (direction rising) (now (h .entry)) ⌝ }
 {
-    capped_cost(h, rising, closeness, NO_CAP)
+    let sheet = logarithm::copied_sheet();
+    capped_cost(&sheet, h, rising, closeness, NO_CAP)
 }

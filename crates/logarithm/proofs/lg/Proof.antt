@@ -1,53 +1,36 @@
--- `lg` meets its contract. After i turns the worker has done i rounds. Assumes nothing.
-use mathlib.Core.Path.{_≡_}
-use Prim.Native.Nat.{_≤_, _-_}
-use native.Mathlib.Omega.{arith}
+-- `lg` meets its contract, read or found by rounds. Assumes nothing.
+use mathlib.Core.Path.{sym, ap, _∙_}
 use borrow.Author.Needs.{needs}
-use Rattle.logarithm.specs.Log.{roundCount}
-use Rattle.logarithm.specs.Worker.{start, after}
-use Rattle.logarithm.proofs.Laws.{work-starts, work-ready, work-more, work-ends}
+use native.Mathlib.Omega.{arith}
+use Rattle.logarithm.specs.Log.{lg}
+use Rattle.logarithm.specs.Sheet.{sheetSize}
+use Rattle.logarithm.proofs.Twos.{twos-add-bits}
 use Rattle.logarithm.proofs.lg.Statement.{statement}
 use Rattle.logarithm.proofs.lg.Tie as tie
 
-abbrev Inv-loop : tie.InvT-loop
-Inv-loop x s₀ i₀ s i = (i ≤ roundCount) × (s ≡ after i (start x))
+take-apart-requires : tie.Need-take-apart-requires
+take-apart-requires c κs = search needs
 
-abbrev μ-loop : tie.MeasureT-loop
-μ-loop x s₀ i₀ s i = roundCount - i
+read-requires : tie.Need-read-requires
+unfolding sheetSize
+read-requires c κs = search needs
 
-start-requires : tie.Need-start-requires Inv-loop μ-loop
-start-requires c κs = search needs
-
-loop-holds : tie.Need-loop-holds Inv-loop μ-loop
-loop-holds c = (omega arith, work-starts (c .before .args .x) (c .start .ensures))
-
-round-requires : tie.Need-round-requires Inv-loop μ-loop
-unfolding roundCount
-round-requires c κs =
-    let p = c .before .before .before .pre in
-    work-ready (c .before .before .before .args .x) (c .before .loop .i) (p .0) (p .1) (omega arith) (c .before .loop .inv .1)
-
-add-i : tie.Need-add-i Inv-loop μ-loop
-unfolding roundCount
-add-i c = search needs
-
-loop-less : tie.Need-loop-less Inv-loop μ-loop
-unfolding roundCount
-loop-less c = search needs
-
-loop-again : tie.Need-loop-again Inv-loop μ-loop
-unfolding roundCount
-loop-again c =
-    let l = c .before .before .loop in
-    (omega arith, work-more (c .before .before .before .before .args .x) (l .i) (l .inv .1) (c .round .ensures))
-
-returns : tie.Need-returns Inv-loop μ-loop
-unfolding roundCount
+returns : tie.Need-returns
 returns c =
-    let l = c .before .loop in
-    work-ends (c .before .before .before .args .x) (l .i) (omega arith) (l .inv .1)
+    let apart = c .before .before .before in
+    let s = apart .before in
+    let t = apart .take-apart in
+    let p = t .result in
+    c .read .ensures
+    ∙ sym (twos-add-bits (p .odd) (p .twos) (rw (t .ensures .whole) (s .pre .1)))
+    ∙ ap lg (t .ensures .whole)
+
+by-rounds-requires : tie.Need-by-rounds-requires
+by-rounds-requires c κs = search needs
+
+returns-2 : tie.Need-returns-2
+returns-2 c = search needs
 
 pub lg-spec : {M : Type 1} → statement M
 lg-spec =
-    tie.close
-    (tie.spec Inv-loop μ-loop start-requires loop-holds round-requires add-i loop-less loop-again returns)
+    tie.close (tie.spec take-apart-requires read-requires returns by-rounds-requires returns-2)

@@ -18,7 +18,7 @@ use Rattle.segmentation.proofs.joins.join_all.Statement.{statement}
 use Rattle.segmentation.proofs.joins.join_all.Tie as tie
 
 abbrev Inv-loop : tie.InvT-loop
-Inv-loop h closeness separators₀ peaks₀ n left₀ separators peaks left =
+Inv-loop sheet h closeness separators₀ peaks₀ n left₀ separators peaks left =
     (left ≤ n)
     × (length separators ≡ length separators₀)
     × (length peaks ≡ length peaks₀)
@@ -26,7 +26,7 @@ Inv-loop h closeness separators₀ peaks₀ n left₀ separators peaks left =
     × (joinAll left closeness (lineReader h) (segmentsHeld separators peaks 0 left) ≡ joinAll n closeness (lineReader h) (segmentsHeld separators₀ peaks₀ 0 n))
 
 abbrev μ-loop : tie.MeasureT-loop
-μ-loop h closeness separators₀ peaks₀ n left₀ separators peaks left = left
+μ-loop sheet h closeness separators₀ peaks₀ n left₀ separators peaks left = left
 
 -- the join that was found comes next, and is a run of the segments held
 found : (c : tie.Else1 Inv-loop μ-loop)

@@ -1,30 +1,37 @@
 -- `line` gives the modes of a line. Assumes nothing.
-use mathlib.Core.Path.{sym, subst, _∙_}
+use mathlib.Core.Path.{_≡_, sym, subst, _∙_}
 use borrow.Author.Needs.{needs}
 use native.Mathlib.Omega.{arith}
+use Prim.Native.Nat.{_≤_}
 use lib.ListN.{length}
+use Rattle.segmentation.specs.Joining.{lineReader, joinAll, lineModes}
 use Rattle.segmentation.specs.Held.{segmentsHeld}
 use Rattle.segmentation.specs.Finished.{Cut}
 use Rattle.segmentation.proofs.FirstCut.{first-cut}
 use Rattle.segmentation.proofs.Holding.{held-length}
-use Rattle.segmentation.proofs.Applied.{line-held, cut-count}
+use Rattle.segmentation.proofs.Applied.{line-held, cut-count, one-joins-none, joins-none}
 use Rattle.segmentation.proofs.joins.line.Statement.{statement}
 use Rattle.segmentation.proofs.joins.line.Tie as tie
 
 first-segments-requires : tie.Need-first-segments-requires
 first-segments-requires c κs = search needs
 
-join-all-requires : tie.Need-join-all-requires
-join-all-requires c κs =
-    let a = c .before .before .before .before .before .before .before .before .before .before .before .before .args in
-    let pre = c .before .before .before .before .before .before .before .before .before .before .before .before .pre in
-    let f = c .before .before .before .before .before .before .first-segments in
-    let s = f .last .1 .0 in
-    let p = f .last .1 .1 .0 in
-    let cut : Cut (length (a .h .now)) (segmentsHeld s p 0 (f .result)) = subst (Cut (length (a .h .now))) (sym (f .ensures)) (first-cut (a .h .now) (pre .1 .0 .0)) in
-    let count = cut-count cut in
-    let held = held-length s p 0 (f .result) in
-    (pre .0, (pre .1 .0 .1, ((omega (arith, pre, f .kept), omega (arith, pre, f .kept)), cut)))
+-- from the test of their number back to the first segments, and from there to the function's entry
+abbrev found : tie.After-slice-known4 → tie.After-first-segments
+found c = c .before .before .before .before
+
+abbrev entry : tie.After-first-segments → tie.Start
+entry c = c .before .before .before .before .before .before
+
+-- joining the first segments gives the modes
+modes-are : (c : tie.After-first-segments) →
+    let f = c .first-segments in
+    joinAll (f .result) (entry c .args .closeness) (lineReader (entry c .args .h .now)) (segmentsHeld (f .last .1 .0) (f .last .1 .1 .0) 0 (f .result))
+    ≡ lineModes (entry c .args .closeness) (entry c .args .h .now)
+modes-are c =
+    let a = entry c .args in
+    let f = c .first-segments in
+    line-held (a .closeness) (a .h .now) (f .last .1 .0) (f .last .1 .1 .0) (f .result) (f .ensures)
 
 same-length : tie.Need-same-length
 same-length c = search needs
@@ -34,10 +41,48 @@ same-length-2 c = search needs
 
 returns : tie.Need-returns
 returns c =
-    let a = c .before .before .before .before .before .before .before .before .before .before .before .before .before .before .before .before .before .args in
-    let f = c .before .before .before .before .before .before .before .before .before .before .before .first-segments in
-    c .before .before .before .before .join-all .ensures .0
-    ∙ line-held (a .closeness) (a .h .now) (f .last .1 .0) (f .last .1 .1 .0) (f .result) (f .ensures)
+    let at = found (c .before) in
+    let f = at .first-segments in
+    let ss = segmentsHeld (f .last .1 .0) (f .last .1 .1 .0) 0 (f .result) in
+    let read = lineReader (entry at .args .h .now) in
+    let few : length ss ≤ 1 = omega (arith, held-length (f .last .1 .0) (f .last .1 .1 .0) 0 (f .result)) in
+    sym (joins-none (entry at .args .closeness) read (f .result) ss (one-joins-none (entry at .args .closeness) read ss few)) ∙ modes-are at
+
+copied-sheet-requires : tie.Need-copied-sheet-requires
+copied-sheet-requires c κs = search needs
+
+join-all-requires : tie.Need-join-all-requires
+join-all-requires c κs =
+    let at = found (c .before .before .before .before .before) in
+    let s = entry at in
+    let f = at .first-segments in
+    let cut : Cut (length (s .args .h .now)) (segmentsHeld (f .last .1 .0) (f .last .1 .1 .0) 0 (f .result)) =
+    subst (Cut (length (s .args .h .now))) (sym (f .ensures)) (first-cut (s .args .h .now) (s .pre .1 .0 .0)) in
+    let count = cut-count cut in
+    let held = held-length (f .last .1 .0) (f .last .1 .1 .0) 0 (f .result) in
+    (s .pre .0, ((s .pre .1 .0 .1, c .before .before .before .copied-sheet .ensures), ((omega (arith, s .pre, f .kept), omega (arith, s .pre, f .kept)), cut)))
+
+same-length-3 : tie.Need-same-length-3
+same-length-3 c = search needs
+
+same-length-4 : tie.Need-same-length-4
+same-length-4 c = search needs
+
+returns-2 : tie.Need-returns-2
+returns-2 c =
+    let joined = c .before .before .before .before in
+    joined .join-all .ensures .0 ∙ modes-are (found (joined .before .before .before .before .before .before))
 
 pub line-spec : {M : Type 1} → statement M
-line-spec = tie.close (tie.spec first-segments-requires join-all-requires same-length same-length-2 returns)
+line-spec =
+    tie.close
+    (tie.spec
+    first-segments-requires
+    same-length
+    same-length-2
+    returns
+    copied-sheet-requires
+    join-all-requires
+    same-length-3
+    same-length-4
+    returns-2)

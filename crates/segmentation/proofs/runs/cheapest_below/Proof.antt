@@ -18,10 +18,10 @@ abbrev runs : (h : List ℕ) (closeness : ℕ) (separators peaks : List ℕ) (n 
 runs h closeness separators peaks n len k = joinOf closeness (lineReader h) (segmentsHeld separators peaks 0 n) k len
 
 abbrev Inv-loop : tie.InvT-loop
-Inv-loop h closeness separators peaks n len best₀ i₀ best i = (i + len ≤ n + 1) × Searched (runs h closeness separators peaks n len) i best
+Inv-loop sheet h closeness separators peaks n len best₀ i₀ best i = (i + len ≤ n + 1) × Searched (runs h closeness separators peaks n len) i best
 
 abbrev μ-loop : tie.MeasureT-loop
-μ-loop h closeness separators peaks n len best₀ i₀ best i = n + 1 - i
+μ-loop sheet h closeness separators peaks n len best₀ i₀ best i = n + 1 - i
 
 nothing-requires : tie.Need-nothing-requires Inv-loop μ-loop
 nothing-requires c κs = search needs

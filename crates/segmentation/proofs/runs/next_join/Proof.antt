@@ -14,12 +14,12 @@ use Rattle.segmentation.proofs.runs.next_join.Statement.{statement}
 use Rattle.segmentation.proofs.runs.next_join.Tie as tie
 
 abbrev Inv-loop : tie.InvT-loop
-Inv-loop h closeness separators peaks n len₀ len =
+Inv-loop sheet h closeness separators peaks n len₀ len =
     let ss = segmentsHeld separators peaks 0 n in
     (2 ≤ len) × (len ≤ n + 1) × (nextJoin closeness (lineReader h) ss ≡ fromLength closeness (lineReader h) ss len)
 
 abbrev μ-loop : tie.MeasureT-loop
-μ-loop h closeness separators peaks n len₀ len = n + 1 - len
+μ-loop sheet h closeness separators peaks n len₀ len = n + 1 - len
 
 -- the segments, and how many
 abbrev segments : tie.Start Inv-loop μ-loop → List Segment
@@ -36,7 +36,7 @@ loop-holds c =
 cheapest-below-requires : tie.Need-cheapest-below-requires Inv-loop μ-loop
 cheapest-below-requires c κs =
     let s = c .before .before .before .before .before in
-    (record { small = s .pre .0; close = s .pre .1 .0; places = s .pre .1 .1 .0; cut = s .pre .1 .1 .1 }, (search needs, search needs))
+    (record { logs = s .pre .1 .0 .1; small = s .pre .0; close = s .pre .1 .0 .0; places = s .pre .1 .1 .0; cut = s .pre .1 .1 .1 }, (search needs, search needs))
 
 returns : tie.Need-returns Inv-loop μ-loop
 returns c =

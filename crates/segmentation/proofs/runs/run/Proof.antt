@@ -72,7 +72,7 @@ stretch-cost-requires c κs =
     let line = s .pre .0 in
     let f = fall-inside (s .args .separators .now) (s .args .peaks .now) (length (s .args .h .now)) (s .args .n) (line .cut) (s .args .i) (s .args .len) (s .pre .1 .0) (s .pre .1 .1) in
     rw (c .before .before .before .before .before .before .wide .ensures, c .before .before .before .before .wide2 .ensures, least-is c)
-    (line .small, (f .0, f .1, line .close, s .pre .1 .2))
+    (line .small, (f .0, f .1, line .close, s .pre .1 .2, line .logs))
 
 smaller-requires : tie.Need-smaller-requires
 smaller-requires c κs = search needs
@@ -89,7 +89,7 @@ stretch-cost-requires-2 c κs =
     (by-cond (λ (z : ℤ). mag z < 2 ^ 62) (ltZ (fall .result) (s .args .least)) (fall .result) (s .args .least) (λ e. fall .ensures .small) (λ e. s .pre .1 .2))
     in
     rw (w .before .before .wide3 .ensures, w .wide4 .ensures, handed-back (c .smaller .ok))
-    (line .small, (r .0, r .1, line .close, m))
+    (line .small, (r .0, r .1, line .close, m, line .logs))
 
 by-costs-requires : tie.Need-by-costs-requires
 by-costs-requires c κs = search needs

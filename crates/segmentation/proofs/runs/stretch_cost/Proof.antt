@@ -31,7 +31,7 @@ capped-cost-requires c κs =
     let s = c .before .before in
     rw (add-one, toZ-ofZ w64 (s .args .cap) (s .fits .cap)) (
       part-small (s .args .i) (s .args .j) (s .args .h .now) (omega arith) (s .pre .0),
-      ((part-some (s .args .i) (s .args .j) (s .args .h .now) (omega arith) (omega arith), s .pre .1 .2), s .pre .1 .3),
+      ((part-some (s .args .i) (s .args .j) (s .args .h .now) (omega arith) (omega arith), s .pre .1 .2), (s .pre .1 .3, s .pre .1 .4)),
     )
 
 returns : tie.Need-returns

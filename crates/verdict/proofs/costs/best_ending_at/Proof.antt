@@ -17,11 +17,11 @@ use Rattle.verdict.proofs.costs.best_ending_at.Statement.{statement}
 use Rattle.verdict.proofs.costs.best_ending_at.Tie as tie
 
 abbrev Inv-loop : tie.InvT-loop
-Inv-loop h rising before starts sums lens j first end best limit found₀ i₀ found i =
+Inv-loop sheet h rising before starts sums lens j first end best limit found₀ i₀ found i =
     (first ≤ i) × (toZ w64 best ≤ℤ toZ w64 found) × BestOf h (blocks (direction rising) h) (toZ w64 limit) (EndingAt j first i) (toZ w64 found)
 
 abbrev μ-loop : tie.MeasureT-loop
-μ-loop h rising before starts sums lens j first end best limit found₀ i₀ found i = end - i
+μ-loop sheet h rising before starts sums lens j first end best limit found₀ i₀ found i = end - i
 
 loop-holds : tie.Need-loop-holds Inv-loop μ-loop
 loop-holds c =
@@ -44,7 +44,9 @@ returns c =
     )
 
 part-weight-requires : tie.Need-part-weight-requires Inv-loop μ-loop
-part-weight-requires c κs = search needs
+part-weight-requires c κs =
+    let s = c .before .before .before .before .before in
+    (s .pre .0, (omega arith, omega arith, s .pre .1 .0 .2))
 
 larger-requires : tie.Need-larger-requires Inv-loop μ-loop
 larger-requires c κs = search needs

@@ -18,17 +18,17 @@ use Rattle.verdict.proofs.costs.best_in_turn.Statement.{statement}
 use Rattle.verdict.proofs.costs.best_in_turn.Tie as tie
 
 abbrev Inv-loop : tie.InvT-loop
-Inv-loop h rising before starts sums lens within best limit found₀ j₀ found j =
+Inv-loop sheet h rising before starts sums lens within best limit found₀ j₀ found j =
     (toZ w64 best ≤ℤ toZ w64 found) × BestOf h (blocks (direction rising) h) (toZ w64 limit) (Turn within starts j) (toZ w64 found)
 
 abbrev μ-loop : tie.MeasureT-loop
-μ-loop h rising before starts sums lens within best limit found₀ j₀ found j = length h - j
+μ-loop sheet h rising before starts sums lens within best limit found₀ j₀ found j = length h - j
 
 loop-holds : tie.Need-loop-holds Inv-loop μ-loop
 loop-holds c =
     let s = c .before in (
       ≤ℤ-refl _,
-      best-none _ _ _ (rw (toZ-ofZ w64 (s .args .best) (s .fits .best)) (s .pre .1)) (λ i j v. omega arith),
+      best-none _ _ _ (rw (toZ-ofZ w64 (s .args .best) (s .fits .best)) (s .pre .1 .0)) (λ i j v. omega arith),
     )
 
 is-below-requires : tie.Need-is-below-requires Inv-loop μ-loop
@@ -81,7 +81,7 @@ best-ending-at-requires c κs =
     let l = c .before .before .before .before .before .before .before .loop in
     let s = c .before .before .before .before .before .before .before .before .before in
     let low = start-le (direction (s .args .rising)) (s .args .h .now) (s .args .starts .now) (s .args .sums .now) (s .args .lens .now) (l .j) (s .pre .0 .places) (omega arith) in
-    (s .pre .0, ((omega arith, rw (end-is c) (end-le (s .args .within) _ _ low)), l .inv .1 .attained))
+    (s .pre .0, ((omega arith, rw (end-is c) (end-le (s .args .within) _ _ low), s .pre .1 .1), l .inv .1 .attained))
 
 add-j : tie.Need-add-j Inv-loop μ-loop
 add-j c = search needs

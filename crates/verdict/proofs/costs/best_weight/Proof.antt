@@ -15,13 +15,13 @@ sub-part-weight : tie.Need-sub-part-weight
 sub-part-weight c = search needs
 
 part-weight-requires : tie.Need-part-weight-requires
-part-weight-requires c κs = search needs
+part-weight-requires c κs = let s = c .before in (s .pre .0, (omega arith, omega arith, s .pre .1 .1))
 
 best-in-turn-requires : tie.Need-best-in-turn-requires
 best-in-turn-requires c κs =
     let s = c .before .before in
     let w = c .part-weight in
-    (s .pre .0, record { first = 0; last = length (s .args .h .now) - 1; ends = (omega arith, omega arith); weight = handed-back (w .ok) ∙ w .ensures })
+    (s .pre .0, (record { first = 0; last = length (s .args .h .now) - 1; ends = (omega arith, omega arith); weight = handed-back (w .ok) ∙ w .ensures }, s .pre .1 .1))
 
 best-in-turn-requires-2 : tie.Need-best-in-turn-requires-2
 best-in-turn-requires-2 c κs = search needs

@@ -59,7 +59,7 @@ limit-is c =
 sum-requires : tie.Need-sum-requires
 sum-requires c κs =
     let s = entry (fit c) in
-    (rw (toZ-ofZ w64 (s .args .cap) (s .fits .cap)) (s .pre .1 .1), omega (arith, height-small c))
+    (rw (toZ-ofZ w64 (s .args .cap) (s .fits .cap)) (s .pre .1 .1 .0), omega (arith, height-small c))
 
 best-weight-requires : tie.Need-best-weight-requires
 best-weight-requires c κs =
@@ -71,7 +71,7 @@ best-weight-requires c κs =
         running = f .before .before .before .before .running-totals .ensures;
         places = places-held (direction (s .args .rising)) (s .args .h .now) _ _ _ _ _ _ (e .0) (e .1 .0) (e .1 .1);
       },
-      s .pre .1 .0 .0,
+      (s .pre .1 .0 .0, s .pre .1 .1 .1),
     )
 
 less-requires : tie.Need-less-requires

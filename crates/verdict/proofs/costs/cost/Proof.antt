@@ -7,14 +7,17 @@ use borrow.Author.Needs.{needs}
 use Rattle.verdict.proofs.costs.cost.Statement.{statement}
 use Rattle.verdict.proofs.costs.cost.Tie as tie
 
+copied-sheet-requires : tie.Need-copied-sheet-requires
+copied-sheet-requires c κs = search needs
+
 capped-cost-requires : tie.Need-capped-cost-requires
 capped-cost-requires c κs = search needs
 
 returns : tie.Need-returns
 returns c =
-    let s = c .before .before in
+    let s = c .before .before .before .before in
     handed-back (c .capped-cost .ok)
     ∙ c .capped-cost .ensures .below (cost-below (s .args .closeness) (direction (s .args .rising)) (s .args .h .now) (s .pre .0) (s .pre .1 .0))
 
 pub cost-spec : {M : Type 1} → statement M
-cost-spec = tie.close (tie.spec capped-cost-requires returns)
+cost-spec = tie.close (tie.spec copied-sheet-requires capped-cost-requires returns)

@@ -64,6 +64,7 @@ weight-requires c κs =
     rw (all c, some c, c .part-mass .ensures) (
       small .counts,
       in-range (direction (s .args .rising)) (s .args .h .now) (small .bins) (small .counts) (s .args .i) (s .args .j) (s .pre .1 .0) (s .pre .1 .1),
+      s .pre .1 .2,
     )
 
 returns : tie.Need-returns

@@ -18,7 +18,7 @@ mul-lg : tie.Need-mul-lg
 mul-lg c = rw add-one (omega (arith, parts-range (c .args .bins) (c .pre .1) (c .pre .2)))
 
 lg-requires : tie.Need-lg-requires
-lg-requires c κs = rw add-one (omega (arith, parts-range (c .args .bins) (c .pre .1) (c .pre .2)))
+lg-requires c κs = (c .pre .3, rw add-one (parts-range (c .args .bins) (c .pre .1) (c .pre .2)))
 
 units-requires : tie.Need-units-requires
 units-requires c κs = omega (arith, closeness-small (c .before .pre .0))

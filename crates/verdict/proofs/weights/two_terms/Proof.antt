@@ -11,16 +11,16 @@ use Rattle.verdict.proofs.weights.two_terms.Tie as tie
 
 -- the four products
 first : (s : tie.Start) → s .args .k * lg (s .args .p) ≤ s .args .k * 2 ^ 45
-first s = term-small (s .args .k) (s .args .p) (s .pre .1 .0 .0) (s .pre .1 .0 .1)
+first s = term-small (s .args .k) (s .args .p) (s .pre .2)
 
 second : (s : tie.Start) → s .args .rest * lg (s .args .s) ≤ s .args .rest * 2 ^ 45
-second s = term-small (s .args .rest) (s .args .s) (s .pre .1 .0 .2) (s .pre .1 .0 .3)
+second s = term-small (s .args .rest) (s .args .s) (s .pre .4)
 
 third : (s : tie.Start) → s .args .k * lg (s .args .q) ≤ s .args .k * 2 ^ 45
-third s = term-small (s .args .k) (s .args .q) (s .pre .1 .1 .0) (s .pre .1 .1 .1)
+third s = term-small (s .args .k) (s .args .q) (s .pre .3)
 
 fourth : (s : tie.Start) → s .args .rest * lg (s .args .t) ≤ s .args .rest * 2 ^ 45
-fourth s = term-small (s .args .rest) (s .args .t) (s .pre .1 .1 .2) (s .pre .1 .1 .3)
+fourth s = term-small (s .args .rest) (s .args .t) (s .pre .5)
 
 lg-four-requires : tie.Need-lg-four-requires
 lg-four-requires c κs = search needs

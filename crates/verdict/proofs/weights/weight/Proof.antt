@@ -33,7 +33,8 @@ sub-one-term c = search needs
 one-term-requires : tie.Need-one-term-requires
 one-term-requires c κs =
     let s = c .before .before .before .before .before .before .before in
-    omega (arith, s .pre .0, logged-none (s .args .n) (s .args .k) (s .args .m) (s .pre .1) (c .before .before .before .if2 .taken) (c .before .before .before .before .if1 .left))
+    let l = logged-none (s .args .n) (s .args .k) (s .args .m) (s .pre .1) (c .before .before .before .if2 .taken) (c .before .before .before .before .if1 .left) in
+    (s .pre .2, s .pre .0, l .0, l .1)
 
 returns-2 : tie.Need-returns-2
 returns-2 c =
@@ -48,7 +49,8 @@ mul-one-term-3 c =
 one-term-requires-2 : tie.Need-one-term-requires-2
 one-term-requires-2 c κs =
     let s = c .before .before .before .before .before .before in
-    omega (arith, s .pre .0, logged-all (s .args .n) (s .args .k) (s .args .m) (s .pre .1) (c .before .if3 .taken) (c .before .before .if2 .left))
+    let l = logged-all (s .args .n) (s .args .k) (s .args .m) (s .pre .1) (c .before .if3 .taken) (c .before .before .if2 .left) in
+    (s .pre .2, omega (arith, s .pre .0, s .pre .1 .partial), l .0, l .1)
 
 returns-3 : tie.Need-returns-3
 returns-3 c =
@@ -77,7 +79,8 @@ sub-two-terms c = search needs
 two-terms-requires : tie.Need-two-terms-requires
 two-terms-requires c κs =
     let s = c .before .before .before .before .before .before .before .before .before in
-    omega (arith, s .pre .0, s .pre .1 .partial, logged-both (s .args .n) (s .args .k) (s .args .m) (s .pre .1) (c .before .before .before .before .before .if2 .left) (c .before .before .before .before .if3 .left))
+    let l = logged-both (s .args .n) (s .args .k) (s .args .m) (s .pre .1) (c .before .before .before .before .before .if2 .left) (c .before .before .before .before .if3 .left) in
+    (s .pre .2, omega (arith, s .pre .0, s .pre .1 .partial), l .0 .0, l .0 .1, l .1 .0, l .1 .1)
 
 returns-4 : tie.Need-returns-4
 unfolding weight
