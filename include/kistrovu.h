@@ -54,7 +54,7 @@ extern "C" {
 /* ---- the version of this header and, from the call, that of the library. If the two differ, the program was linked with
  * another release. Major: a declaration, a number or a figure's meaning changed. Minor: something was added. */
 
-#define KISTROVU_VERSION_MAJOR 2
+#define KISTROVU_VERSION_MAJOR 3
 #define KISTROVU_VERSION_MINOR 0
 #define KISTROVU_VERSION_PATCH 0
 #define KISTROVU_VERSION (10000 * KISTROVU_VERSION_MAJOR + 100 * KISTROVU_VERSION_MINOR + KISTROVU_VERSION_PATCH)
@@ -115,8 +115,10 @@ struct kistrovu_fit_answer { /* 2,052 bytes */
 struct kistrovu_fit_answer kistrovu_fit(const uint32_t *histogram, size_t bins, bool rising);
 
 /* ---- the verdict: whether a histogram is too far from the monotone fit. Grounds 6, 7, 8
- * The cost is in units of 1/16,777,216 of a bit and may be negative; the histogram is rejected if the cost is 0 or more.
- * Each step of closeness takes one bit off the cost, so a larger closeness rejects less, and modes join more readily. */
+ * The cost is in units of 1/67,108,864 of a bit and may be negative; the histogram is rejected if the cost is 0 or more.
+ * Each step of closeness takes one bit off the cost, so a larger closeness rejects less, and modes join more readily.
+ * A cost comes of logarithms to base 2 in the same units, which no call hands out. A controller that needs those of 1 to
+ * 1,024 finds them in crates/logarithm/src/sheet.rt, in the array SHEET: that of x at place x - 1, counted from 0. */
 
 struct kistrovu_verdict {
     int64_t cost;

@@ -91,7 +91,7 @@ fn read_fit(answer: &raw::FitAnswer, bins: usize) -> Result<Fit, Ground> {
 /// The outcome of the test whether a histogram can be taken for a monotone one.
 #[derive(Clone, Copy, Debug, PartialEq, Eq, Hash)]
 pub struct Verdict {
-    /// By how much the histogram exceeds the bar of the test, in units of 1/16,777,216 of a bit; negative if it stays below
+    /// By how much the histogram exceeds the bar of the test, in units of 1/67,108,864 of a bit; negative if it stays below
     /// the bar.
     pub cost: i64,
     /// Whether the cost is 0 or more: the histogram is not taken for a monotone one.
@@ -106,7 +106,7 @@ pub struct Verdict {
 /// assert!(verdict(&[20, 0], Direction::Increasing, 0)?.rejected);
 /// // A monotone histogram costs minus the bar: here minus log2(3), in units.
 /// let falling = verdict(&[20, 0], Direction::Decreasing, 0)?;
-/// assert_eq!((falling.cost, falling.rejected), (-26_591_258, false));
+/// assert_eq!((falling.cost, falling.rejected), (-106_365_032, false));
 ///
 /// let rising = |histogram: &[u32], closeness| verdict(histogram, Direction::Increasing, closeness);
 /// assert_eq!(rising(&[], 0), Err(Ground::Bins));

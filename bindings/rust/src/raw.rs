@@ -62,7 +62,7 @@ pub struct FitAnswer {
 #[repr(C)]
 #[derive(Clone, Copy, Debug, PartialEq, Eq)]
 pub struct Verdict {
-    /// The cost in units of 1/16,777,216 of a bit.
+    /// The cost in units of 1/67,108,864 of a bit.
     pub cost: i64,
     /// 1 if the histogram is rejected, else 0.
     pub rejected: u8,

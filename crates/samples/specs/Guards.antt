@@ -16,9 +16,13 @@ guards =
     ∷ measures 101 200 1 20 28 59 false
     -- bits of the logarithm are cut off, not rounded
     ∷ logarithm 1 0
-    ∷ logarithm 2 16777216
-    ∷ logarithm 3 26591258
-    ∷ logarithm 4294967295 536870911
+    ∷ logarithm 2 67108864
+    ∷ logarithm 3 106365032
+    ∷ logarithm 4294967295 2147483647
+    -- the last number on the sheet, the first past it, and one whose odd part is on it
+    ∷ logarithm 1024 671088640
+    ∷ logarithm 1025 671183142
+    ∷ logarithm 2046 738102909
     -- a mean is a sum and a length, not a whole number
     ∷ fit increasing (2 ∷ 1 ∷ []) (block 3 2 ∷ block 3 2 ∷ [])
     -- equal means share a block
@@ -32,15 +36,15 @@ guards =
     ∷ mass increasing (4 ∷ 2 ∷ 1 ∷ []) 0 1 14 3
     -- across blocks B is the product of the two lengths, not their least common multiple
     ∷ mass increasing (4 ∷ 3 ∷ 1 ∷ 10 ∷ 9 ∷ 0 ∷ []) 1 4 162 9
-    ∷ verdict 0 increasing (4 ∷ 3 ∷ 1 ∷ 10 ∷ 9 ∷ 0 ∷ []) (pos 101004434) true
+    ∷ verdict 0 increasing (4 ∷ 3 ∷ 1 ∷ 10 ∷ 9 ∷ 0 ∷ []) (pos 404017655) true
     -- every part is tested, not only the whole stretch
-    ∷ verdict 0 increasing (20 ∷ 0 ∷ []) (pos 308953062) true
+    ∷ verdict 0 increasing (20 ∷ 0 ∷ []) (pos 1235812248) true
     -- a cost of exactly 0 rejects
-    ∷ verdict 0 increasing (0 ∷ 0 ∷ 2 ∷ 0 ∷ 0 ∷ 0 ∷ 0 ∷ 0 ∷ []) (pos 0) true
+    ∷ verdict 0 increasing (0 ∷ 0 ∷ 32046 ∷ 31505 ∷ []) (pos 0) true
     -- each step of the closeness raises the bar by one bit
-    ∷ verdict 1 increasing (0 ∷ 0 ∷ 2 ∷ 0 ∷ 0 ∷ 0 ∷ 0 ∷ 0 ∷ []) (negsuc 16777215) false
+    ∷ verdict 1 increasing (0 ∷ 0 ∷ 32046 ∷ 31505 ∷ []) (negsuc 67108863) false
     -- a stretch that is monotone in the tested direction costs minus the bar
-    ∷ verdict 0 increasing (1 ∷ 2 ∷ 2 ∷ []) (negsuc 43368473) false
+    ∷ verdict 0 increasing (1 ∷ 2 ∷ 2 ∷ []) (negsuc 173473895) false
     -- one bin is never rejected, even at a cost of 0
     ∷ verdict 0 increasing (5 ∷ []) (pos 0) false
     -- the first bin of a run of equal bins
