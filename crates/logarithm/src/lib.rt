@@ -10,6 +10,7 @@ pub use sheet::SHEET_SIZE;
 pub use sheet::copied_sheet;
 ghost use mathlib.Core.Path.{_≡_};
 ghost use Prim.Native.Nat.{_+_, _≤_, _<_, _*_, _^_};
+ghost use lib.Dec.{leb};
 ghost use Rattle.logarithm.specs.Log.{Loggable, lg, unitsPerBit};
 ghost use Rattle.logarithm.specs.Sheet.{sheetSize, logSheet};
 ghost use Rattle.logarithm.specs.Worker.{Ready, TakenApart, start, round, logsOf};
@@ -106,6 +107,13 @@ fn take_apart(x: u64) -> Odd
     }
 }
 
+// The sheet has the odd part, so the logarithm need not be found by rounds.
+fn on_sheet(p: Odd) -> bool
+    ensures { λ r. ⌜ r ≡ leb (p .odd) sheetSize ⌝ }
+{
+    p.odd <= SHEET_SIZE as u64
+}
+
 // The logarithm of a number whose odd part is on the sheet: one more bit for each factor of 2.
 fn read(sheet: &[u32; SHEET_SIZE], p: Odd) -> u64
     requires { ⌜ (now sheet ≡ logSheet) × (1 ≤ p .odd) × (p .odd ≤ sheetSize) × (p .twos < 32) ⌝ }
@@ -121,19 +129,17 @@ pub fn lg(sheet: &[u32; SHEET_SIZE], x: u64) -> u64
     ensures { λ r. ⌜ r ≡ lg x ⌝ }
 {
     let p = take_apart(x);
-    if p.odd <= SHEET_SIZE as u64 {
+    if on_sheet(p) {
         return read(sheet, p);
     }
     by_rounds(x)
 }
 
-// Neither logarithm can be read from the sheet. What this says decides only on the faster way: each way gives the logarithm.
+// Both logarithms must be found by rounds. This only chooses the faster way, so it promises nothing: either way gives the logarithms.
 fn both_past(a: u64, b: u64) -> bool
     requires { ⌜ Loggable a × Loggable b ⌝ }
 {
-    let p = take_apart(a);
-    let q = take_apart(b);
-    (p.odd > SHEET_SIZE as u64) & (q.odd > SHEET_SIZE as u64)
+    !on_sheet(take_apart(a)) & !on_sheet(take_apart(b))
 }
 
 // Two logarithms, side by side if neither can be read.
