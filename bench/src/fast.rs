@@ -2,10 +2,9 @@
 //! It is compared with the reference before anything is timed.
 
 use reference::calls::MOST_BINS;
+use reference::logarithm::ROUNDS;
 use std::convert::Infallible;
 use std::ops::{ControlFlow, Range, RangeInclusive};
-
-const ROUNDS: u32 = 24;
 
 #[derive(Clone, Copy)]
 struct Block {

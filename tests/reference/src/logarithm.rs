@@ -1,7 +1,7 @@
 //! The logarithm.
 
 /// How many rounds are done, each of which settles one binary place.
-pub const ROUNDS: u32 = 24;
+pub const ROUNDS: u32 = 26;
 
 /// One bit, in units of the logarithm.
 pub const UNIT: u64 = 1 << ROUNDS;
@@ -30,6 +30,11 @@ mod tests {
     use super::*;
 
     #[test]
+    fn a_bit_has_as_many_units_as_l1_says() {
+        assert_eq!(UNIT, 67_108_864);
+    }
+
+    #[test]
     fn powers_of_two_are_exact() {
         for power in 0..32 {
             assert_eq!(lg(1 << power), power * UNIT);
@@ -43,14 +48,16 @@ mod tests {
         }
     }
 
-    /// 2^lg ≤ x^(2^24) < 2^(lg+2), as nearly as floating point can tell: within a hundredth of a unit.
+    /// 2^lg ≤ x^(2^26) < 2^(lg+2), as nearly as floating point can tell, which is within a millionth of a unit: a
+    /// logarithm below 32 is off by at most 2^-48 as an `f64`, which is 2^-22 of a unit.
     #[test]
     fn bounds_hold() {
         let last = (1u64 << 32) - 1;
         for x in (1..100_000).chain((0..100_000).map(|back| last - back)) {
             let exact = (x as f64).log2() * UNIT as f64;
             let below = exact - lg(x) as f64;
-            assert!(-0.01 < below && below < 2.01, "{x}: {below}");
+            let near = 1e-6;
+            assert!(-near < below && below < 2.0 + near, "{x}: {below}");
         }
     }
 }

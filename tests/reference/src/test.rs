@@ -209,14 +209,33 @@ mod tests {
 
     #[test]
     fn a_cost_of_0_is_a_rejection() {
-        // Two leading empty bins, then a block of six with both counts in its first: W = 2·lg 6, the bar lg 36.
-        assert_eq!(lg(36), 2 * lg(6), "the tie rests on this");
-        let tie = verdict(&[0, 0, 2, 0, 0, 0, 0, 0], true, 0);
+        // Fitted 58, 737, 737. The last bin weighs most, with k = 678 and A/B = 1474/2; the other 854 counts have
+        // 1590/2.
+        let term = |count: u64, mass| count as i64 * (lg(2 * count) as i64 - lg(mass) as i64);
+        let bar = lg(6) as i64 + 4 * UNIT as i64;
         assert_eq!(
-            tie,
+            term(678, 1474) + term(854, 1590),
+            bar,
+            "the tie rests on this"
+        );
+        assert_eq!(
+            verdict(&[58, 796, 678], true, 4),
             Verdict {
                 cost: 0,
                 rejected: true
+            }
+        );
+    }
+
+    #[test]
+    fn a_cost_of_minus_1_is_no_rejection() {
+        // Two leading empty bins, then a block of six with both counts in its first: W = 2·lg 6, the bar lg 36.
+        assert_eq!(lg(36), 2 * lg(6) + 1, "the cost rests on this");
+        assert_eq!(
+            verdict(&[0, 0, 2, 0, 0, 0, 0, 0], true, 0),
+            Verdict {
+                cost: -1,
+                rejected: false
             }
         );
     }

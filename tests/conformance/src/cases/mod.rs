@@ -1,6 +1,7 @@
 //! The cases of the kit, by call. Answers are not part of them.
 
 pub mod cards;
+mod denominators;
 pub mod fits;
 pub mod grounds;
 pub mod histograms;

@@ -1,5 +1,6 @@
 //! Histograms for the verdict, each in both directions.
 
+use super::denominators::DENOMINATORS;
 use super::histograms::{every, limits, telling, Named, SHAPES};
 use super::Case;
 use crate::calls::Call;
@@ -85,27 +86,10 @@ fn grounds_at_once() -> Vec<Judged> {
     .to_vec()
 }
 
-/// Stretches whose cost is another by some units when B is not that of T1 and T2.
 fn denominators() -> Vec<Judged> {
-    let not_product = "B of a part that ends in two blocks is the product of their lengths";
-    let equal = "B is the product also where the two lengths are equal";
-    let one_block = "B of a part that ends in one block is its length";
-    let not_lowest = "A/B is not put into lowest terms";
-    let common = "B is the product, not the least common multiple";
-    [
-        (not_product, vec![0, 5, 2]),
-        (not_product, vec![1, 7, 0]),
-        (equal, vec![0, 0, 0, 132, 0, 0]),
-        (equal, vec![57, 9, 9, 32, 32, 32]),
-        (one_block, vec![0, 0, 7]),
-        (one_block, vec![0, 4, 3]),
-        (not_lowest, vec![1, 1, 7]),
-        (not_lowest, vec![2, 3, 4]),
-        (common, vec![0, 0, 31, 0, 0, 0]),
-        (common, vec![2, 0, 0, 31, 1, 0]),
-    ]
-    .map(|(what, histogram)| ((what.to_string(), histogram), 0))
-    .to_vec()
+    DENOMINATORS
+        .map(|(rule, _, counts)| ((rule.to_string(), counts.to_vec()), 0))
+        .to_vec()
 }
 
 fn every_small() -> Vec<Judged> {
@@ -115,7 +99,7 @@ fn every_small() -> Vec<Judged> {
     all.into_iter().map(judged).collect()
 }
 
-/// At the closeness of the tie, one below and one above; and a few of them mirrored.
+/// At the closeness of the tie; some of them also at one below, and some mirrored.
 fn ties() -> Vec<Judged> {
     let mut judged = Vec::new();
     for (index, &(cost, closeness, histogram)) in TIES.iter().enumerate() {
