@@ -40,9 +40,9 @@ guards =
     -- every part is tested, not only the whole stretch
     ∷ verdict 0 increasing (20 ∷ 0 ∷ []) (pos 1235812248) true
     -- a cost of exactly 0 rejects
-    ∷ verdict 0 increasing (0 ∷ 0 ∷ 32046 ∷ 31505 ∷ []) (pos 0) true
+    ∷ verdict 0 increasing (155 ∷ 1183 ∷ 1090 ∷ []) (pos 0) true
     -- each step of the closeness raises the bar by one bit
-    ∷ verdict 1 increasing (0 ∷ 0 ∷ 32046 ∷ 31505 ∷ []) (negsuc 67108863) false
+    ∷ verdict 1 increasing (155 ∷ 1183 ∷ 1090 ∷ []) (negsuc 67108863) false
     -- a stretch that is monotone in the tested direction costs minus the bar
     ∷ verdict 0 increasing (1 ∷ 2 ∷ 2 ∷ []) (negsuc 173473895) false
     -- one bin is never rejected, even at a cost of 0
@@ -58,6 +58,8 @@ guards =
     -- the smaller of the two costs counts, and it may be the rise's or the fall's
     ∷ modes 0 (1 ∷ 0 ∷ 4 ∷ []) (mode 0 2 2 ∷ [])
     ∷ modes 0 (4 ∷ 0 ∷ 1 ∷ []) (mode 0 0 2 ∷ [])
+    -- a run that costs exactly 0 is not joined
+    ∷ line 14 (294 ∷ 164 ∷ 1442 ∷ []) (0 ∷ 1 ∷ 2 ∷ [])
     -- of equal costs, the fall
     ∷ line 0 (0 ∷ 5 ∷ 2 ∷ 5 ∷ 0 ∷ 4 ∷ []) (0 ∷ 5 ∷ [])
     -- of equal costs, the leftmost run
