@@ -8,7 +8,6 @@ use lib.Pow.{pow-add, pow-pos}
 use native.Mathlib.Omega.{arith}
 use native.Mathlib.Nat.{add-mul, mul-assoc, mul-comm, mul-one, pow-suc, pow-zero, le-of-eq, le-trans, lt-of-lt-of-le, lt-of-le-of-lt, mul-le-mul-right, mul-lt-mul-of-pos-right, div-one, div-div-eq-div-mul, div-add-mod'}
 use Rattle.lists.proofs.Powers.{pow-lt-cancel}
-use Rattle.logarithm.specs.declared.Odd.{Odd}
 use Rattle.logarithm.specs.Log.{Loggable, roundCount, unitsPerBit, floorLog, rounds, lg}
 use Rattle.logarithm.specs.Bounds.{TwosAddBits}
 use Rattle.logarithm.specs.Worker.{TakenApart}

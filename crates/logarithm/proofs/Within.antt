@@ -7,7 +7,7 @@ use native.Mathlib.Omega.{arith}
 use native.Mathlib.Nat.{add-assoc, add-comm, add-left-comm, mul-assoc, mul-comm, mul-left-comm, mul-right-comm, mul-add, add-mul, mul-one, one-mul, mul-zero, zero-mul, pow-suc, pow-zero, le-trans, le-refl, le-of-eq, lt-of-le-of-lt, lt-of-lt-of-le, le-of-lt, mul-le-mul, mul-le-mul-left, mul-le-mul-right, le-of-mul-le-mul-left, div-mul-le-self, lt-div-mul-add, mul-lt-mul-of-pos-left, mul-lt-mul-of-pos-right, mul-pos, le-of-mul-le-mul-right, lt-of-mul-lt-mul-right, suc-mul, add-zero, one-le-pow, div-lt-iff-lt-mul, le-div-iff-mul-le, mul-suc}
 use borrow.Author.Tests.{leb-true, leb-false}
 use Rattle.logarithm.specs.declared.Logarithm.{Logarithm}
-use Rattle.logarithm.specs.Log.{Loggable, roundCount, unitsPerBit, floorLog}
+use Rattle.logarithm.specs.Log.{roundCount, unitsPerBit, floorLog}
 use Rattle.logarithm.specs.Worker.{start, round, after}
 use Rattle.logarithm.specs.Bounds.{AlwaysBounded}
 use Rattle.lists.proofs.Cases.{by-cond}

@@ -1,12 +1,12 @@
 -- The logarithm's worker: the state that a round takes and hands back. Assumes nothing.
 -- The bits found so far form one whole number. Each round doubles it and adds the bit found, so that no round needs to know which one it is.
 use Prim.Native.Nat.{ℕ, zero, suc, _+_, _*_, _-_, _/_, _^_, _≤_, _<_}
+use mathlib.Core.Path.{_≡_}
 use mathlib.Core.Bool.{cond}
 use lib.Dec.{leb}
 use Rattle.logarithm.specs.declared.Logarithm.{Logarithm}
 use Rattle.logarithm.specs.declared.Two.{Two}
 use Rattle.logarithm.specs.declared.Odd.{Odd}
-use mathlib.Core.Path.{_≡_}
 use Rattle.logarithm.specs.declared.Logs.{Logs}
 use Rattle.logarithm.specs.Log.{floorLog, lg}
 
