@@ -117,8 +117,9 @@ struct kistrovu_fit_answer kistrovu_fit(const uint32_t *histogram, size_t bins, 
 /* ---- the verdict: whether a histogram is too far from the monotone fit. Grounds 6, 7, 8
  * The cost is in units of 1/67,108,864 of a bit and may be negative; the histogram is rejected if the cost is 0 or more.
  * Each step of closeness takes one bit off the cost, so a larger closeness rejects less, and modes join more readily.
- * A cost comes of logarithms to base 2 in the same units, which no call hands out. A controller that needs those of 1 to
- * 1,024 finds them in crates/logarithm/src/sheet.rt, in the array SHEET: that of x at place x - 1, counted from 0. */
+ * A cost comes of logarithms to base 2 in the same units, which no call hands out. For a controller that needs those of
+ * 1 to 1,024, the source has them in crates/logarithm/src/sheet.rt, in the array SHEET: that of x at place x - 1, counted
+ * from 0. */
 
 struct kistrovu_verdict {
     int64_t cost;

@@ -27,7 +27,7 @@ start-shift x v =
     let z : leadingZeros 64 x ≡ 63 - f = omega (arith, t .1) in
     let shift : leadingZeros 64 x - 32 ≡ 31 - f = omega arith in
     let whole : 63 - leadingZeros 64 x ≡ f = omega arith in
-    let below : x * 2 ^ (31 - f) < 2 ^ 31 * 2 = after-start x 0 (v .low) (v .high) .below in
+    let below : x * 2 ^ (31 - f) < 2 ^ 31 * 2 = after-start x 0 v .below in
     let fits : x * 2 ^ (31 - f) % 2 ^ 64 ≡ x * 2 ^ (31 - f) = mod-eq-of-lt (omega arith) in
     rw (whole, shift, fits) refl
 
@@ -60,11 +60,11 @@ work-starts x e = e
 pub work-ready : {s : Logarithm} (x i : ℕ) → Loggable x → i < roundCount → s ≡ after i (start x) → Ready s
 unfolding roundCount
 work-ready x i v l e =
-    let w = after-start x i (v .low) (v .high) in
+    let w = after-start x i v in
     rw e (record {
       low = w .above;
       high = w .below;
-      room = omega (arith, bits-below x (2 ^ i) (after i (start x) .bits) (v .high) (pow-pos i) (after-low x i (v .low) (v .high)), pow-mono (le-of-lt l));
+      room = omega (arith, bits-below x (2 ^ i) (after i (start x) .bits) (v .high) (pow-pos i) (after-low x i v), pow-mono (le-of-lt l));
     })
 
 pub work-more : {s t : Logarithm} (x i : ℕ) → s ≡ after i (start x) → t ≡ round s → t ≡ after (i + 1) (start x)

@@ -10,7 +10,7 @@ use native.Mathlib.Nat.{add-mul, mul-assoc, mul-comm, mul-one, pow-suc, pow-zero
 use Rattle.lists.proofs.Powers.{pow-lt-cancel}
 use Rattle.logarithm.specs.Log.{Loggable, roundCount, unitsPerBit, floorLog, rounds, lg}
 use Rattle.logarithm.specs.Bounds.{TwosAddBits}
-use Rattle.logarithm.specs.Worker.{TakenApart}
+use Rattle.logarithm.specs.Sheet.{twosOf, oddPart}
 use Rattle.logarithm.proofs.Within.{Floor, floor-is, floor-le, floor-unique}
 
 -- the rounds only add to what they start from
@@ -77,15 +77,20 @@ trailing-whole (suc k) n = go (n % 2) refl (trailing-whole k (n / 2))
         ∙ omega (arith, div-add-mod' n 2)
     go (suc d) e h = rw (pow-zero, div-one, mul-one) refl
 
-module _ (x : ℕ) (v : Loggable x) where
-  -- the factors of 2 of a number below 2^32 are fewer than 32
-  pub twos-few : trailingZeros 64 x < 32
-  twos-few =
-      let t = trailingZeros 64 x in
-      pow-lt-cancel t 32 (lt-of-le-of-lt (factor-le (x / 2 ^ t) (2 ^ t) x (trailing-whole 64 x) (v .low)) (v .high))
+-- a number is its odd part times a power of 2
+pub odd-twos : (x : ℕ) → oddPart x * 2 ^ twosOf x ≡ x
+unfolding oddPart
+odd-twos x = trailing-whole 64 x
 
-  -- what is left without them, and how many there are
-  pub taken-apart : TakenApart x (record { odd = x / 2 ^ trailingZeros 64 x; twos = trailingZeros 64 x })
-  taken-apart =
-      let t = trailingZeros 64 x in
-      record { whole = trailing-whole 64 x; positive = factor-some (x / 2 ^ t) (2 ^ t) x (trailing-whole 64 x) (v .low); few = twos-few }
+module _ (x : ℕ) (v : Loggable x) where
+  -- of 2 and more the odd part has none
+  pub odd-some : 1 ≤ oddPart x
+  odd-some = factor-some (oddPart x) (2 ^ twosOf x) x (odd-twos x) (v .low)
+
+  -- a number below 2^32 has fewer than 32 factors of 2
+  pub twos-few : twosOf x < 32
+  twos-few = pow-lt-cancel (twosOf x) 32 (lt-of-le-of-lt (factor-le (oddPart x) (2 ^ twosOf x) x (odd-twos x) (v .low)) (v .high))
+
+  -- the logarithm of a number, by that of its odd part
+  pub lg-odd : lg (oddPart x) + twosOf x * unitsPerBit ≡ lg x
+  lg-odd = sym (twos-add-bits (oddPart x) (twosOf x) (rw odd-twos v)) ∙ ap lg (odd-twos x)

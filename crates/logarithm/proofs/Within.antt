@@ -7,7 +7,7 @@ use native.Mathlib.Omega.{arith}
 use native.Mathlib.Nat.{add-assoc, add-comm, add-left-comm, mul-assoc, mul-comm, mul-left-comm, mul-right-comm, mul-add, add-mul, mul-one, one-mul, mul-zero, zero-mul, pow-suc, pow-zero, le-trans, le-refl, le-of-eq, lt-of-le-of-lt, lt-of-lt-of-le, le-of-lt, mul-le-mul, mul-le-mul-left, mul-le-mul-right, le-of-mul-le-mul-left, div-mul-le-self, lt-div-mul-add, mul-lt-mul-of-pos-left, mul-lt-mul-of-pos-right, mul-pos, le-of-mul-le-mul-right, lt-of-mul-lt-mul-right, suc-mul, add-zero, one-le-pow, div-lt-iff-lt-mul, le-div-iff-mul-le, mul-suc}
 use borrow.Author.Tests.{leb-true, leb-false}
 use Rattle.logarithm.specs.declared.Logarithm.{Logarithm}
-use Rattle.logarithm.specs.Log.{roundCount, unitsPerBit, floorLog}
+use Rattle.logarithm.specs.Log.{Loggable, roundCount, unitsPerBit, floorLog}
 use Rattle.logarithm.specs.Worker.{start, round, after}
 use Rattle.logarithm.specs.Bounds.{AlwaysBounded}
 use Rattle.lists.proofs.Cases.{by-cond}
@@ -183,21 +183,21 @@ start-inv x f l i =
     first n = pow-suc n 0 ∙ ap (λ (k : ℕ). k * n) (pow-zero n) ∙ one-mul n
 
 -- the state after n rounds of x
-pub after-start : (x n : ℕ) → 1 ≤ x → x < 2 ^ 32 → Inv x (2 ^ 31) (grow n 0) (after n (start x))
+pub after-start : (x n : ℕ) → Loggable x → Inv x (2 ^ 31) (grow n 0) (after n (start x))
 unfolding start
-after-start x n h k = after-inv x n 0 (start x) (start-inv x (floorLog 31 x) (floor-le 31 x) (floor-is 31 x h k))
+after-start x n v = after-inv x n 0 (start x) (start-inv x (floorLog 31 x) (floor-le 31 x) (floor-is 31 x (v .low) (v .high)))
 
 grow-start : (n : ℕ) → suc (grow n 0) ≡ 2 ^ n
 grow-start n = grow-is n 0 ∙ mul-one (2 ^ n)
 
 -- the rounds as a variable, so that no closed power stands anywhere
-pub after-low : (x n : ℕ) → 1 ≤ x → x < 2 ^ 32 → 2 ^ after n (start x) .bits ≤ x ^ (2 ^ n)
-after-low x n h k = rw grow-start at (end-low x (2 ^ 31) (grow n 0) (lit< tt) (after n (start x)) (after-start x n h k))
+pub after-low : (x n : ℕ) → Loggable x → 2 ^ after n (start x) .bits ≤ x ^ (2 ^ n)
+after-low x n v = rw grow-start at (end-low x (2 ^ 31) (grow n 0) (lit< tt) (after n (start x)) (after-start x n v))
 
-after-high : (x n : ℕ) → 1 ≤ x → x < 2 ^ 32 → 2 * grow n 0 ≤ 2 ^ 31 → x ^ (2 ^ n) < 2 ^ (after n (start x) .bits + 2)
-after-high x n h k l = rw (grow-start n) at (end-high x (2 ^ 31) (grow n 0) (lit< tt) (after n (start x)) (after-start x n h k) l)
+after-high : (x n : ℕ) → Loggable x → 2 * grow n 0 ≤ 2 ^ 31 → x ^ (2 ^ n) < 2 ^ (after n (start x) .bits + 2)
+after-high x n v l = rw (grow-start n) at (end-high x (2 ^ 31) (grow n 0) (lit< tt) (after n (start x)) (after-start x n v) l)
 
 pub always-bounded : AlwaysBounded
 unfolding unitsPerBit roundCount grow
 always-bounded x v =
-    record { low = rw lg-worker (after-low x roundCount (v .low) (v .high)); high = rw lg-worker (after-high x roundCount (v .low) (v .high) (lit≤ tt)) }
+    record { low = rw lg-worker (after-low x roundCount v); high = rw lg-worker (after-high x roundCount v (lit≤ tt)) }

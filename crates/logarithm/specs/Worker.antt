@@ -1,12 +1,10 @@
 -- The logarithm's worker: the state that a round takes and hands back. Assumes nothing.
 -- The bits found so far form one whole number. Each round doubles it and adds the bit found, so that no round needs to know which one it is.
 use Prim.Native.Nat.{ℕ, zero, suc, _+_, _*_, _-_, _/_, _^_, _≤_, _<_}
-use mathlib.Core.Path.{_≡_}
 use mathlib.Core.Bool.{cond}
 use lib.Dec.{leb}
 use Rattle.logarithm.specs.declared.Logarithm.{Logarithm}
 use Rattle.logarithm.specs.declared.Two.{Two}
-use Rattle.logarithm.specs.declared.Odd.{Odd}
 use Rattle.logarithm.specs.declared.Logs.{Logs}
 use Rattle.logarithm.specs.Log.{floorLog, lg}
 
@@ -32,20 +30,14 @@ unfoldable pub after : ℕ → Logarithm → Logarithm
 after zero s = s
 after (suc n) s = after n (round s)
 
--- two workers, on a and on b, after n rounds of each
+-- L3: two workers, on a and on b, after n rounds of each
 abbrev pub twoAfter : ℕ → ℕ → ℕ → Two
 twoAfter n a b = record { a = after n (start a); b = after n (start b) }
 
--- a round of both
+-- L3: a round of both
 abbrev pub roundBoth : Two → Two
 roundBoth s = record { a = round (s .a); b = round (s .b) }
 
--- the logarithms of a and of b
+-- L1: the logarithms of a and of b
 abbrev pub logsOf : ℕ → ℕ → Logs
 logsOf a b = record { a = lg a; b = lg b }
-
--- L5: x as the product of a number and a power of 2, so that only that number need be on the sheet
-pub record TakenApart (x : ℕ) (p : Odd) : Type 0 where
-  pub whole : p .odd * 2 ^ p .twos ≡ x
-  pub positive : 1 ≤ p .odd
-  pub few : p .twos < 32

@@ -12,8 +12,8 @@ ghost use mathlib.Core.Path.{_≡_};
 ghost use Prim.Native.Nat.{_+_, _≤_, _<_, _*_, _^_};
 ghost use lib.Dec.{leb};
 ghost use Rattle.logarithm.specs.Log.{Loggable, lg, unitsPerBit};
-ghost use Rattle.logarithm.specs.Sheet.{sheetSize, logSheet};
-ghost use Rattle.logarithm.specs.Worker.{Ready, TakenApart, start, round, logsOf};
+ghost use Rattle.logarithm.specs.Sheet.{sheetSize, logSheet, twosOf, oddPart, bothPast};
+ghost use Rattle.logarithm.specs.Worker.{Ready, start, round, logsOf};
 
 // The state between rounds: a mantissa of 2^31 or more and below 2^32, and the bits of the logarithm found so far.
 pub struct Logarithm {
@@ -98,7 +98,7 @@ fn wide(x: u32) -> u64
 // A number without its factors of 2, and how many there are.
 fn take_apart(x: u64) -> Odd
     requires { ⌜ Loggable x ⌝ }
-    ensures { λ r. ⌜ TakenApart x r ⌝ }
+    ensures { λ r. ⌜ r ≡ record { odd = oddPart x; twos = twosOf x } ⌝ }
 {
     let zeros = u64::trailing_zeros(x);
     Odd {
@@ -135,11 +135,15 @@ pub fn lg(sheet: &[u32; SHEET_SIZE], x: u64) -> u64
     by_rounds(x)
 }
 
-// Both logarithms must be found by rounds. This only chooses the faster way, so it promises nothing: either way gives the logarithms.
+// The sheet has neither logarithm.
 fn both_past(a: u64, b: u64) -> bool
     requires { ⌜ Loggable a × Loggable b ⌝ }
+    ensures { λ r. ⌜ r ≡ bothPast a b ⌝ }
 {
-    !on_sheet(take_apart(a)) & !on_sheet(take_apart(b))
+    if on_sheet(take_apart(a)) {
+        return false;
+    }
+    !on_sheet(take_apart(b))
 }
 
 // Two logarithms, side by side if neither can be read.
@@ -161,8 +165,10 @@ pub fn lg_four(sheet: &[u32; SHEET_SIZE], a: u64, b: u64, c: u64, d: u64) -> Fou
     requires { ⌜ (now sheet ≡ logSheet) × Loggable a × Loggable b × Loggable c × Loggable d ⌝ }
     ensures { λ r. ⌜ r ≡ record { first = logsOf a b; second = logsOf c d } ⌝ }
 {
-    if both_past(a, b) & both_past(c, d) {
-        return four_by_rounds(a, b, c, d);
+    if both_past(a, b) {
+        if both_past(c, d) {
+            return four_by_rounds(a, b, c, d);
+        }
     }
     FourLogs {
         first: lg_two(sheet, a, b),

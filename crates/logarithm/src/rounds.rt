@@ -5,6 +5,7 @@ use crate::Logs;
 use crate::Two;
 ghost use mathlib.Core.Path.{_≡_};
 ghost use Rattle.logarithm.specs.Log.{Loggable, lg};
+ghost use Rattle.logarithm.specs.Sheet.{PastSheet};
 ghost use Rattle.logarithm.specs.Worker.{Ready, start, roundBoth, logsOf};
 
 impl Two {
@@ -42,9 +43,9 @@ fn bits_of(s: Two) -> Logs
     }
 }
 
-// The logarithm of any number that has one, by its rounds.
+// Rounds are done only where the sheet does not have the logarithm.
 pub fn by_rounds(x: u64) -> u64
-    requires { ⌜ Loggable x ⌝ }
+    requires { ⌜ PastSheet x ⌝ }
     ensures { λ r. ⌜ r ≡ lg x ⌝ }
 {
     let mut s = Logarithm::start(x);
@@ -57,7 +58,7 @@ pub fn by_rounds(x: u64) -> u64
 }
 
 pub fn two_by_rounds(a: u64, b: u64) -> Logs
-    requires { ⌜ Loggable a × Loggable b ⌝ }
+    requires { ⌜ PastSheet a × PastSheet b ⌝ }
     ensures { λ r. ⌜ r ≡ logsOf a b ⌝ }
 {
     let mut s = Two::start(a, b);
@@ -70,7 +71,7 @@ pub fn two_by_rounds(a: u64, b: u64) -> Logs
 }
 
 pub fn four_by_rounds(a: u64, b: u64, c: u64, d: u64) -> FourLogs
-    requires { ⌜ Loggable a × Loggable b × Loggable c × Loggable d ⌝ }
+    requires { ⌜ PastSheet a × PastSheet b × PastSheet c × PastSheet d ⌝ }
     ensures { λ r. ⌜ r ≡ record { first = logsOf a b; second = logsOf c d } ⌝ }
 {
     let mut s = Two::start(a, b);

@@ -21,6 +21,11 @@ ghost use Rattle.verdict.specs.Scratch.{Small, Scratch, Capped, Attained
 // A cap that no cost reaches: 2^62 - 1.
 const NO_CAP: i64 = 4611686018427387903;
 
+// The two turns of a search: the parts within one block, and those across blocks.
+const WITHIN: bool = true;
+
+const ACROSS: bool = false;
+
 // The weight of the part from bin i to bin j.
 fn part_weight(
     sheet: &[u32; SHEET_SIZE],
@@ -173,7 +178,7 @@ fn best_weight(
         starts,
         sums,
         lens,
-        true,
+        WITHIN,
         whole,
         limit,
     );
@@ -185,7 +190,7 @@ fn best_weight(
         starts,
         sums,
         lens,
-        false,
+        ACROSS,
         inside,
         limit,
     )

@@ -1,6 +1,7 @@
 -- `lg_two` meets its contract, side by side or one after the other. Assumes nothing.
-use mathlib.Core.Path.{refl}
+use mathlib.Core.Path.{refl, sym, _∙_}
 use borrow.Author.Needs.{needs}
+use Rattle.logarithm.proofs.Stored.{both-parts}
 use Rattle.logarithm.proofs.lg_two.Statement.{statement}
 use Rattle.logarithm.proofs.lg_two.Tie as tie
 
@@ -8,7 +9,9 @@ both-past-requires : tie.Need-both-past-requires
 both-past-requires c κs = search needs
 
 two-by-rounds-requires : tie.Need-two-by-rounds-requires
-two-by-rounds-requires c κs = search needs
+two-by-rounds-requires c κs =
+    let s = c .before .before in
+    both-parts (s .args .a) (s .args .b) (s .pre .1) (s .pre .2) (sym (c .before .both-past .ensures) ∙ c .if1 .taken)
 
 returns : tie.Need-returns
 returns c = search needs

@@ -25,7 +25,7 @@ round-requires : tie.Need-round-requires Inv-loop μ-loop
 unfolding roundCount
 round-requires c κs =
     let f = c .before .before .before in
-    work-ready (f .args .x) (c .before .loop .i) (f .pre) (omega arith) (c .before .loop .inv .1)
+    work-ready (f .args .x) (c .before .loop .i) (f .pre .loggable) (omega arith) (c .before .loop .inv .1)
 
 add-i : tie.Need-add-i Inv-loop μ-loop
 unfolding roundCount

@@ -32,14 +32,14 @@ unfolding roundCount
 round-requires c κs =
     let l = c .before .loop in
     let f = c .before .before .before .before in
-    pair-ready (f .args .a) (f .args .b) (l .i) (f .pre .0) (f .pre .1) (omega arith) (l .inv .1)
+    pair-ready (f .args .a) (f .args .b) (l .i) (f .pre .0 .loggable) (f .pre .1 .loggable) (omega arith) (l .inv .1)
 
 round-requires-2 : tie.Need-round-requires-2 Inv-loop μ-loop
 unfolding roundCount
 round-requires-2 c κs =
     let l = c .before .before .loop in
     let f = c .before .before .before .before .before in
-    pair-ready (f .args .c) (f .args .d) (l .i) (f .pre .2) (f .pre .3) (omega arith) (l .inv .2)
+    pair-ready (f .args .c) (f .args .d) (l .i) (f .pre .2 .loggable) (f .pre .3 .loggable) (omega arith) (l .inv .2)
 
 add-i : tie.Need-add-i Inv-loop μ-loop
 unfolding roundCount

@@ -26,7 +26,7 @@ unfolding roundCount
 round-requires c κs =
     let l = c .before .loop in
     let f = c .before .before .before in
-    pair-ready (f .args .a) (f .args .b) (l .i) (f .pre .0) (f .pre .1) (omega arith) (l .inv .1)
+    pair-ready (f .args .a) (f .args .b) (l .i) (f .pre .0 .loggable) (f .pre .1 .loggable) (omega arith) (l .inv .1)
 
 add-i : tie.Need-add-i Inv-loop μ-loop
 unfolding roundCount
