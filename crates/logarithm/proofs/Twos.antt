@@ -83,7 +83,7 @@ unfolding oddPart
 odd-twos x = trailing-whole 64 x
 
 module _ (x : ℕ) (v : Loggable x) where
-  -- of 2 and more the odd part has none
+  -- the odd part is 1 or more
   pub odd-some : 1 ≤ oddPart x
   odd-some = factor-some (oddPart x) (2 ^ twosOf x) x (odd-twos x) (v .low)
 
