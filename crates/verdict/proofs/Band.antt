@@ -1,8 +1,8 @@
 -- The band of T8 and T9: a rejected stretch has a part above the bar minus 2N+2 units, and every part of an accepted one is below the bar plus 2N units.
 -- Each logarithm is off by less than 2 units, and a weight has N of them on either side. Assumes nothing.
 use Prim.Native.Nat.{ℕ, zero, suc, _+_, _*_, _-_, _/_, _^_, _≤_, _<_}
-use mathlib.Core.Path.{_≡_, sym, ap, _∙_}
-use mathlib.Core.Bool.{Bool, true, false, _&&_}
+use mathlib.Core.Path.{_≡_, refl, sym, ap, _∙_}
+use mathlib.Core.Bool.{Bool, true, false, not, _&&_}
 use mathlib.Core.List.{List}
 use lib.Dec.{leb}
 use lib.ListN.{length}
@@ -14,16 +14,20 @@ use native.Mathlib.Nat.{mul-comm, mul-le-mul, mul-le-mul-left, mul-le-mul-right,
 use borrow.Author.Tests.{leb-true, leb-false, le-leb}
 use Rattle.lists.specs.Lists.{total, part}
 use Rattle.lists.proofs.Powers.{mul-pow, pow-pow, pow-swap}
-use Rattle.lists.proofs.Thresholds.{less-bar, difference-reaches, below-misses}
+use Rattle.lists.proofs.Connectives.{both-true}
+use Rattle.lists.proofs.Differences.{differences-reach}
+use Rattle.lists.proofs.Thresholds.{less-reaches, below-misses}
 use Rattle.logarithm.specs.Log.{unitsPerBit, lg}
 use Rattle.logarithm.specs.Bounds.{Bounded}
 use Rattle.logarithm.proofs.Within.{always-bounded}
 use Rattle.pooling.specs.Blocks.{Direction, blocks}
 use Rattle.verdict.specs.declared.Mass.{Mass}
-use Rattle.verdict.specs.Test.{Closeness, fittedMass, weight, partWeight, bar, largestWeight, cost, rejected}
-use Rattle.verdict.specs.Exactness.{observed, expected, exactBar, LogsDefined, partX, partBar, Exact}
+use Rattle.verdict.specs.Test.{Closeness, fittedMass, weight, partWeight, bar, largestWeight, cost, stepAgainst, rejected}
+use Rattle.verdict.specs.Exactness.{observed, expected, powerAbove, powerBelow, exactBar, LogsDefined, partX, partBar, ByClause, Exact}
 use Rattle.verdict.proofs.Terms.{observedLog, expectedLog, Ranged, loggable, counted, massed, remaining, parts-range}
 use Rattle.verdict.proofs.Largest.{largest-part, part-largest}
+use Rattle.verdict.proofs.Settings.{up, down, bar-split, above-power, below-power}
+use Rattle.verdict.proofs.Clause.{none-monotone}
 
 -- ---- a power of x against the factor times the logarithm
 -- at factor 0 both sides are 1
@@ -79,33 +83,58 @@ module _ (n k : ℕ) (m : Mass) (r : LogsDefined n k m) where
   unfolding expected
   expected-high = pair-high n k (m .num) (n * m .den - m .num) (r .partial) (massed n k m r) (remaining n k m r)
 
-weight-reaches : (t n k : ℕ) (m : Mass) → leZ (pos t) (weight n k m) ≡ leb (expectedLog n k m + t) (observedLog n k m)
+-- ---- the bar is the difference of two numbers: the logarithm of the exact bar, and the bits of a negative closeness
+abbrev raisedLog : Closeness → ℕ → ℕ
+raisedLog e l = lg (l * suc l / 2) + up e * unitsPerBit
+
+weight-reaches : (e : Closeness) (l n k : ℕ) (m : Mass)
+    → leZ (bar e l) (weight n k m) ≡ leb (raisedLog e l + expectedLog n k m) (observedLog n k m + down e * unitsPerBit)
 unfolding weight
-weight-reaches t n k m = difference-reaches t (observedLog n k m) (expectedLog n k m)
+weight-reaches e l n k m =
+    ap (λ (z : ℤ). leZ z (weight n k m)) (bar-split e l) ∙ differences-reach (raisedLog e l) (down e * unitsPerBit) (observedLog n k m) (expectedLog n k m)
 
--- ---- the bar; l bins have l(l+1)/2 parts, within the logarithm's range
-module _ (e l : ℕ) (least : 2 ≤ l) (most : l ≤ 257) where
+-- ---- the exact bar; l bins have l(l+1)/2 parts, within the logarithm's range
+module _ (e : Closeness) (l : ℕ) (least : 1 ≤ l) (most : l ≤ 257) where
   parts-bounded : Bounded (l * suc l / 2)
-  parts-bounded = always-bounded (l * suc l / 2) (parts-range l (omega arith) most)
+  parts-bounded = always-bounded (l * suc l / 2) (parts-range l least most)
 
-  split : exactBar e l ^ unitsPerBit ≡ 2 ^ (e * unitsPerBit) * (l * suc l / 2) ^ unitsPerBit
+  split : exactBar e l ^ unitsPerBit ≡ 2 ^ (up e * unitsPerBit) * (l * suc l / 2) ^ unitsPerBit
   unfolding exactBar
-  split = mul-pow (2 ^ e) (l * suc l / 2) unitsPerBit ∙ ap (λ (k : ℕ). k * (l * suc l / 2) ^ unitsPerBit) (pow-pow 2 e unitsPerBit)
+  split = mul-pow (powerAbove e) (l * suc l / 2) unitsPerBit ∙ ap (λ (k : ℕ). k * (l * suc l / 2) ^ unitsPerBit) (above-power e)
 
-  bar-low : 2 ^ bar e l ≤ exactBar e l ^ unitsPerBit
-  unfolding bar
+  bar-low : 2 ^ raisedLog e l ≤ exactBar e l ^ unitsPerBit
   bar-low =
-      le-trans (le-of-eq (pow-add 2 (lg (l * suc l / 2)) (e * unitsPerBit) ∙ mul-comm (2 ^ lg (l * suc l / 2)) (2 ^ (e * unitsPerBit))))
-      (le-trans (mul-le-mul-left (2 ^ (e * unitsPerBit)) (parts-bounded .low)) (le-of-eq (sym split)))
+      le-trans (le-of-eq (pow-add 2 (lg (l * suc l / 2)) (up e * unitsPerBit) ∙ mul-comm (2 ^ lg (l * suc l / 2)) (2 ^ (up e * unitsPerBit))))
+      (le-trans (mul-le-mul-left (2 ^ (up e * unitsPerBit)) (parts-bounded .low)) (le-of-eq (sym split)))
 
-  bar-high : exactBar e l ^ unitsPerBit < 2 ^ (bar e l + 2)
-  unfolding bar
+  bar-high : exactBar e l ^ unitsPerBit < 2 ^ (raisedLog e l + 2)
   bar-high =
-      lt-of-le-of-lt (le-of-eq (split ∙ mul-comm (2 ^ (e * unitsPerBit)) ((l * suc l / 2) ^ unitsPerBit)))
-      (lt-of-lt-of-le (mul-lt-mul-of-pos-right (parts-bounded .high) (pow-pos (e * unitsPerBit)))
-      (le-of-eq (sym (pow-add 2 (lg (l * suc l / 2) + 2) (e * unitsPerBit)) ∙ ap (λ (n : ℕ). 2 ^ n) (turned (lg (l * suc l / 2)) (e * unitsPerBit)))))
+      lt-of-le-of-lt (le-of-eq (split ∙ mul-comm (2 ^ (up e * unitsPerBit)) ((l * suc l / 2) ^ unitsPerBit)))
+      (lt-of-lt-of-le (mul-lt-mul-of-pos-right (parts-bounded .high) (pow-pos (up e * unitsPerBit)))
+      (le-of-eq (sym (pow-add 2 (lg (l * suc l / 2) + 2) (up e * unitsPerBit)) ∙ ap (λ (n : ℕ). 2 ^ n) (turned (lg (l * suc l / 2)) (up e * unitsPerBit)))))
     where
       turned : (a b : ℕ) → a + 2 + b ≡ a + b + 2
+      turned a b = omega arith
+
+-- ---- X with the power of two of a negative closeness
+module _ (e : Closeness) (n k : ℕ) (m : Mass) (r : LogsDefined n k m) where
+  apart : (powerBelow e * observed n k m) ^ unitsPerBit ≡ observed n k m ^ unitsPerBit * 2 ^ (down e * unitsPerBit)
+  apart =
+      mul-pow (powerBelow e) (observed n k m) unitsPerBit ∙ ap (λ (x : ℕ). x * observed n k m ^ unitsPerBit) (below-power e)
+      ∙ mul-comm (2 ^ (down e * unitsPerBit)) (observed n k m ^ unitsPerBit)
+
+  lowered-low : 2 ^ (observedLog n k m + down e * unitsPerBit) ≤ (powerBelow e * observed n k m) ^ unitsPerBit
+  lowered-low =
+      le-trans (le-of-eq (pow-add 2 (observedLog n k m) (down e * unitsPerBit)))
+      (le-trans (mul-le-mul-right (2 ^ (down e * unitsPerBit)) (observed-low n k m r)) (le-of-eq (sym apart)))
+
+  lowered-high : (powerBelow e * observed n k m) ^ unitsPerBit ≤ 2 ^ (observedLog n k m + down e * unitsPerBit + 2 * n)
+  lowered-high =
+      le-trans (le-of-eq apart)
+      (le-trans (mul-le-mul-right (2 ^ (down e * unitsPerBit)) (observed-high n k m r))
+      (le-of-eq (sym (pow-add 2 (observedLog n k m + 2 * n) (down e * unitsPerBit)) ∙ ap (λ (x : ℕ). 2 ^ x) (turned (observedLog n k m) (down e * unitsPerBit)))))
+    where
+      turned : (a b : ℕ) → a + 2 * n + b ≡ a + b + 2 * n
       turned a b = omega arith
 
 -- ---- the two bands: x, y and b lie around 2^p, 2^m and 2^t
@@ -129,37 +158,60 @@ band-below p m t n x y b h hx ly lb =
     moved = omega arith
 
 -- ---- one part: its weight reaches the bar, or does not
-module _ (e l n k : ℕ) (m : Mass) (least : 2 ≤ l) (most : l ≤ 257) (r : LogsDefined n k m) where
-  weight-above : leZ (pos (bar e l)) (weight n k m) ≡ true → (exactBar e l * expected n k m) ^ unitsPerBit < observed n k m ^ unitsPerBit * 2 ^ (2 * n + 2)
+module _ (e : Closeness) (l n k : ℕ) (m : Mass) (least : 1 ≤ l) (most : l ≤ 257) (r : LogsDefined n k m) where
+  weight-above : leZ (bar e l) (weight n k m) ≡ true
+      → (exactBar e l * expected n k m) ^ unitsPerBit < (powerBelow e * observed n k m) ^ unitsPerBit * 2 ^ (2 * n + 2)
   weight-above q =
-      rw mul-pow
-      (band-above (observedLog n k m) (expectedLog n k m) (bar e l) n (observed n k m ^ unitsPerBit) (expected n k m ^ unitsPerBit) (exactBar e l ^ unitsPerBit)
-      (leb-true (expectedLog n k m + bar e l) (observedLog n k m) (sym (weight-reaches (bar e l) n k m) ∙ q))
-      (observed-low n k m r) (expected-high n k m r) (bar-high e l least most))
+      rw (mul-pow (exactBar e l) (expected n k m) unitsPerBit)
+      (band-above (observedLog n k m + down e * unitsPerBit) (expectedLog n k m) (raisedLog e l) n
+      ((powerBelow e * observed n k m) ^ unitsPerBit) (expected n k m ^ unitsPerBit) (exactBar e l ^ unitsPerBit)
+      (turned (raisedLog e l) (expectedLog n k m) (observedLog n k m + down e * unitsPerBit) (leb-true _ _ (sym (weight-reaches e l n k m) ∙ q)))
+      (lowered-low e n k m r) (expected-high n k m r) (bar-high e l least most))
+    where
+      turned : (a b c : ℕ) → a + b ≤ c → b + a ≤ c
+      turned a b c h = omega arith
 
-  weight-below : leZ (pos (bar e l)) (weight n k m) ≡ false → observed n k m ^ unitsPerBit < (exactBar e l * expected n k m) ^ unitsPerBit * 2 ^ (2 * n)
+  weight-below : leZ (bar e l) (weight n k m) ≡ false
+      → (powerBelow e * observed n k m) ^ unitsPerBit < (exactBar e l * expected n k m) ^ unitsPerBit * 2 ^ (2 * n)
   weight-below q =
-      rw mul-pow
-      (band-below (observedLog n k m) (expectedLog n k m) (bar e l) n (observed n k m ^ unitsPerBit) (expected n k m ^ unitsPerBit) (exactBar e l ^ unitsPerBit)
-      (leb-false (expectedLog n k m + bar e l) (observedLog n k m) (sym (weight-reaches (bar e l) n k m) ∙ q))
-      (observed-high n k m r) (expected-low n k m r) (bar-low e l least most))
+      rw (mul-pow (exactBar e l) (expected n k m) unitsPerBit)
+      (band-below (observedLog n k m + down e * unitsPerBit) (expectedLog n k m) (raisedLog e l) n
+      ((powerBelow e * observed n k m) ^ unitsPerBit) (expected n k m ^ unitsPerBit) (exactBar e l ^ unitsPerBit)
+      (turned (raisedLog e l) (expectedLog n k m) (observedLog n k m + down e * unitsPerBit) (leb-false _ _ (sym (weight-reaches e l n k m) ∙ q)))
+      (lowered-high e n k m r) (expected-low n k m r) (bar-low e l least most))
+    where
+      turned : (a b c : ℕ) → c < a + b → c < b + a
+      turned a b c h = omega arith
 
 -- ---- the stretch: its largest weight reaches the bar, or does not
-rejected-is : (e : Closeness) (w : Direction) (h : List ℕ) → 2 ≤ length h → rejected e w h ≡ leZ (pos (bar e (length h))) (largestWeight h (blocks w h))
-unfolding rejected cost
-rejected-is e w h least =
-    ap (λ (b : Bool). b && leZ (pos 0) (cost e w h)) (le-leb 2 (length h) least) ∙ less-bar (largestWeight h (blocks w h)) (bar e (length h))
+module _ (e : Closeness) (w : Direction) (h : List ℕ) where
+  cost-reaches : leZ (pos 0) (cost e w h) ≡ leZ (bar e (length h)) (largestWeight h (blocks w h))
+  unfolding cost
+  cost-reaches = less-reaches (largestWeight h (blocks w h)) (bar e (length h))
 
-pub exact : (e : Closeness) (w : Direction) (h : List ℕ) → 2 ≤ length h → length h ≤ 257
+  rejects : rejected e w h ≡ true → leZ (bar e (length h)) (largestWeight h (blocks w h)) ≡ true
+  unfolding rejected
+  rejects q = sym cost-reaches ∙ both-true (stepAgainst w h) (leZ (pos 0) (cost e w h)) q .1
+
+  accepts : rejected e w h ≡ false → ¬ ByClause e w h → leZ (bar e (length h)) (largestWeight h (blocks w h)) ≡ false
+  unfolding rejected
+  accepts q n = sym cost-reaches ∙ go (stepAgainst w h) (leZ (pos 0) (cost e w h)) refl refl q
+    where
+      go : (a c : Bool) → stepAgainst w h ≡ a → leZ (pos 0) (cost e w h) ≡ c → (a && c) ≡ false → c ≡ false
+      go a false s t z = refl
+      go false true s t z = absurd (n (record { along = none-monotone w h s; dear = record { le = rw t tt } }))
+      go true true s t z = z
+
+pub exact : (e : Closeness) (w : Direction) (h : List ℕ) → 1 ≤ length h → length h ≤ 257
     → ((i j : ℕ) → i ≤ j → j < length h → LogsDefined (total h) (total (part i j h)) (fittedMass h (blocks w h) i j)) → Exact e w h
 unfolding partWeight partX partBar
 exact e w h least most ranges =
     record {
       rejection = λ q.
-          let found = largest-part h (blocks w h) (omega arith) in
+          let found = largest-part h (blocks w h) least in
           let i = found .0 in
           let j = found .1 in
-          let reaches = ap (λ (z : ℤ). leZ (pos (bar e (length h))) z) (sym (found .4)) ∙ sym (rejected-is e w h least) ∙ q in (
+          let reaches = ap (λ (z : ℤ). leZ (bar e (length h)) z) (sym (found .4)) ∙ rejects e w h q in (
             i,
             j,
             record {
@@ -167,8 +219,8 @@ exact e w h least most ranges =
               above = weight-above e (length h) (total h) (total (part i j h)) (fittedMass h (blocks w h) i j) least most (ranges i j (found .2) (found .3)) reaches;
             },
           );
-      acceptance = λ q i j k l. record {
+      acceptance = λ q n i j k l. record {
         below = weight-below e (length h) (total h) (total (part i j h)) (fittedMass h (blocks w h) i j) least most (ranges i j k l)
-            (below-misses (pos (bar e (length h))) (partWeight h (blocks w h) i j) (largestWeight h (blocks w h)) (part-largest h (blocks w h) i j k l) (sym (rejected-is e w h least) ∙ q));
+            (below-misses (bar e (length h)) (partWeight h (blocks w h) i j) (largestWeight h (blocks w h)) (part-largest h (blocks w h) i j k l) (accepts e w h q n));
       };
     }

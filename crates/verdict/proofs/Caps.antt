@@ -7,21 +7,19 @@ use mathlib.Core.List.{List}
 use native.Mathlib.Omega.{arith}
 use lib.Dec.{leb·suc-suc}
 use lib.ListN.{length, getD}
-use lib.IntN.{ℤ, pos, negsuc, sucℤ, predℤ, negℤ, _+ℤ_, _-ℤ_, +ℤ-idr, +ℤ-sucℤ, sucℤ-+ℤ, +ℤ-predℤ}
-use mir.Syntax.{w64}
-use mir.Val.{SFits}
+use lib.IntN.{ℤ, pos, negsuc, sucℤ, predℤ, negℤ, _+ℤ_, _-ℤ_, +ℤ-idr, +ℤ-sucℤ, sucℤ-+ℤ, +ℤ-predℤ, -ℤ-+ℤ-cancel, +ℤ-negℤ-cancel}
 use lib.Signed.{ltZ, mag, _≤ℤ_, ≤ℤ-refl}
 use borrow.Author.Tests.{lt-ltb, le-ltb}
 use Rattle.lists.specs.Lists.{total, part}
 use Rattle.lists.proofs.Cases.{by-cond, by-order}
-use Rattle.lists.proofs.Signed.{le-trans-ℤ, lt-le-ℤ, nlt-le-ℤ, le-antisym-ℤ, le-lt-ℤ, difference-is, difference-below}
+use Rattle.lists.proofs.Signed.{le-trans-ℤ, lt-le-ℤ, nlt-le-ℤ, le-antisym-ℤ, le-lt-ℤ, less-size}
 use Rattle.pooling.specs.declared.Block.{Block}
 use Rattle.pooling.specs.declared.Place.{Place}
 use Rattle.pooling.specs.Blocks.{Direction, blocks}
 use Rattle.pooling.proofs.Laws.{blocks-cut}
-use Rattle.verdict.specs.Test.{Closeness, mostCloseness, fittedMass, partWeight, largestWeight, bar, cost}
+use Rattle.verdict.specs.Test.{fittedMass, partWeight, largestWeight, bar, cost}
+use Rattle.verdict.specs.Settings.{lastSetting, closenessOf}
 use Rattle.verdict.specs.Scratch.{Small, PlacesHeld, Capped, Attained, BestOf, EndingAt, firstOf, endOf, Turn, Part}
-use Rattle.verdict.proofs.Machine.{difference-fits}
 use Rattle.verdict.proofs.Range.{in-range}
 use Rattle.verdict.proofs.Largest.{largest-part, part-largest}
 use Rattle.verdict.proofs.Masses.{bin-place}
@@ -57,18 +55,16 @@ less-below z c (suc b) =
     one-less : (z : ℤ) (b : ℕ) → z -ℤ pos (suc b) ≡ predℤ (z -ℤ pos b)
     one-less z b = ap (λ (x : ℤ). z +ℤ x) (negative b) ∙ +ℤ-predℤ z (negℤ (pos b))
 
--- a weight less the bar
-pub less-small : (z : ℤ) (b : ℕ) → mag z < 2 ^ 62 - 2 ^ 46 → b ≤ 2 ^ 46 → mag (z -ℤ pos b) < 2 ^ 62
-less-small (pos a) b h k = rw (difference-is a b) (difference-below a b (2 ^ 62) (omega arith) (omega arith))
-less-small (negsuc a) zero h k = difference-below 0 (suc a) (2 ^ 62) (omega arith) (omega arith)
-less-small (negsuc a) (suc b) h k = omega arith
-
-pub sum-fits : (x : ℤ) (b : ℕ) → mag x < 2 ^ 62 → b < 2 ^ 62 → SFits w64 (x +ℤ pos b)
-sum-fits (pos a) b h k = record { sfits = omega arith }
-sum-fits (negsuc a) b h k = difference-fits b (suc a) (omega arith) (omega arith)
+-- the same for what is taken off with either sign
+pub less-any : (z c b : ℤ) → ltZ (z -ℤ b) c ≡ ltZ z (c +ℤ b)
+less-any z c (pos b) = less-below z c b
+less-any z c (negsuc b) =
+    let p : ℤ = pos (suc b) in
+    let y : ℤ = c -ℤ p in
+    ap (ltZ (z +ℤ p)) (sym (-ℤ-+ℤ-cancel c p)) ∙ sym (less-below (z +ℤ p) y (suc b)) ∙ ap (λ (x : ℤ). ltZ x y) (+ℤ-negℤ-cancel z p)
 
 -- ---- a weight that is attained is small
-pub attained-small : (w : Direction) (h : List ℕ) → Small h → (r : ℤ) → Attained h (blocks w h) r → mag r < 2 ^ 62 - 2 ^ 46
+pub attained-small : (w : Direction) (h : List ℕ) → Small h → (r : ℤ) → Attained h (blocks w h) r → mag r < 2 ^ 62 - 2 ^ 48
 unfolding partWeight
 attained-small w h small r a =
     let i = a .first in
@@ -167,18 +163,18 @@ module _ (h : List ℕ) (bs : List Block) (limit : ℤ) where
         go true f = absurd (false≢true (sym e ∙ le-lt-ℤ (largestWeight h bs) r limit (best-ge f) f))
 
 -- ---- the cost
-pub capped-cost-is : (e : Closeness) (w : Direction) (h : List ℕ) (cap r : ℤ) → Small h → 1 ≤ length h → e ≤ mostCloseness
-    → BestOf h (blocks w h) (cap +ℤ pos (bar e (length h))) (Part h) r
-    → Capped cap (cost e w h) (r -ℤ pos (bar e (length h)))
+pub capped-cost-is : (n : ℕ) (w : Direction) (h : List ℕ) (cap r : ℤ) → Small h → 1 ≤ length h → n ≤ lastSetting
+    → BestOf h (blocks w h) (cap +ℤ bar (closenessOf n) (length h)) (Part h) r
+    → Capped cap (cost (closenessOf n) w h) (r -ℤ bar (closenessOf n) (length h))
 unfolding cost
-capped-cost-is e w h cap r small some close best =
-    let height = bar e (length h) in
-    let limit = cap +ℤ pos height in
+capped-cost-is n w h cap r small some close best =
+    let height = bar (closenessOf n) (length h) in
+    let limit = cap +ℤ height in
     let largest = largestWeight h (blocks w h) in
     record {
-      below = λ f. ap (λ (z : ℤ). z -ℤ pos height) (best-largest h (blocks w h) limit some r best (sym (less-below largest cap height) ∙ f));
-      above = λ f. nlt-le-ℤ (r -ℤ pos height) cap (less-below r cap height ∙ best-reaches h (blocks w h) limit some r best (sym (less-below largest cap height) ∙ f));
-      small = less-small r height (attained-small w h small r (best .attained)) (bar-small e (length h) close some (small .bins));
+      below = λ f. ap (λ (z : ℤ). z -ℤ height) (best-largest h (blocks w h) limit some r best (sym (less-any largest cap height) ∙ f));
+      above = λ f. nlt-le-ℤ (r -ℤ height) cap (less-any r cap height ∙ best-reaches h (blocks w h) limit some r best (sym (less-any largest cap height) ∙ f));
+      small = less-size r height (2 ^ 62) (omega (arith, attained-small w h small r (best .attained), bar-small n (length h) close some (small .bins)));
     }
 
 -- ---- the cap that stands for none: no cost reaches it
@@ -186,11 +182,11 @@ below-mag : (z : ℤ) (n : ℕ) → mag z < n → ltZ z (pos n) ≡ true
 below-mag (pos a) n l = lt-ltb a n l
 below-mag (negsuc a) n l = refl
 
-pub cost-below : (e : Closeness) (w : Direction) (h : List ℕ) → Small h → 1 ≤ length h → ltZ (cost e w h) (pos (2 ^ 62 - 1)) ≡ true
+pub cost-below : (n : ℕ) (w : Direction) (h : List ℕ) → Small h → 1 ≤ length h → n ≤ lastSetting → ltZ (cost (closenessOf n) w h) (pos (2 ^ 62 - 1)) ≡ true
 unfolding cost
-cost-below e w h small some =
-    let b = bar e (length h) in
+cost-below n w h small some close =
+    let b = bar (closenessOf n) (length h) in
     let z = largestWeight h (blocks w h) in
     let found = largest-part h (blocks w h) some in
     let part : Attained h (blocks w h) z = record { first = found .0; last = found .1; ends = (found .2, found .3); weight = found .4 } in
-    less-below z (pos (2 ^ 62 - 1)) b ∙ below-mag z (2 ^ 62 - 1 + b) (omega (arith, attained-small w h small z part))
+    below-mag (z -ℤ b) (2 ^ 62 - 1) (less-size z b (2 ^ 62 - 1) (omega (arith, attained-small w h small z part, bar-small n (length h) close some (small .bins))))

@@ -6,6 +6,8 @@ mod Scratch
 pub mod Range
 mod Sizes
 mod Caps
+pub mod Clause
+pub mod Settings
 pub mod Monotone
 pub mod Band
 pub mod Sound

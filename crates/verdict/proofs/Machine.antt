@@ -1,14 +1,14 @@
 -- Signed numbers as the machine holds them: the difference of two natural numbers, and the test of two signed numbers. Assumes nothing.
 use mathlib.Core.Path.{_≡_, sym, ap, _∙_}
 use mathlib.Core.Bool.{Bool}
-use Prim.Native.Nat.{ℕ, zero, suc, _^_, _<_}
+use Prim.Native.Nat.{ℕ, _^_, _<_}
 use native.Mathlib.Omega.{arith}
-use lib.IntN.{ℤ, pos, negsuc, subℕ, _-ℤ_}
+use lib.IntN.{ℤ, subℕ, _+ℤ_, _-ℤ_}
 use lib.Signed.{ltZ, mag}
 use mir.Syntax.{w64}
 use mir.Val.{SFits, toZ, ofZ}
 use mir.ValLaws.{toZ-pos, toZ-ofZ}
-use Rattle.lists.proofs.Signed.{difference-is, difference-below}
+use Rattle.lists.proofs.Signed.{difference-is, difference-below, sum-size, less-size}
 
 pub difference-fits : (a b : ℕ) → a < 2 ^ 63 → b < 2 ^ 63 → SFits w64 (subℕ a b)
 difference-fits a b h k = record { sfits = difference-below a b (2 ^ 63) h k }
@@ -25,8 +25,9 @@ machine-less x y t f g e = sym (ap (λ (z : ℤ). ltZ z y) (toZ-ofZ w64 x f)) �
 pub handed-back : {z : ℤ} → mag z < 2 ^ 63 → toZ w64 (ofZ w64 z) ≡ z
 handed-back h = toZ-ofZ w64 _ (record { sfits = h })
 
--- a small number taken off a small signed one
-pub less-fits : (x : ℤ) (b : ℕ) → mag x < 2 ^ 62 → b < 2 ^ 62 → SFits w64 (x -ℤ pos b)
-less-fits (pos a) b h k = rw (difference-is a b) (difference-fits a b (omega arith) (omega arith))
-less-fits (negsuc a) zero h k = difference-fits 0 (suc a) (omega arith) (omega arith)
-less-fits (negsuc a) (suc b) h k = record { sfits = omega arith }
+-- the sum and the difference of two small signed numbers
+pub sum-fits : (x y : ℤ) → mag x < 2 ^ 62 → mag y < 2 ^ 62 → SFits w64 (x +ℤ y)
+sum-fits x y h k = record { sfits = sum-size x y (2 ^ 63) (omega arith) }
+
+pub less-fits : (x y : ℤ) → mag x < 2 ^ 62 → mag y < 2 ^ 62 → SFits w64 (x -ℤ y)
+less-fits x y h k = record { sfits = less-size x y (2 ^ 63) (omega arith) }

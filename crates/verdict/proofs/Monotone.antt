@@ -122,8 +122,8 @@ module _ (w : Direction) (h : List ℕ) (m : Monotone w h) where
   part-weight-zero i j o l =
       weight-zero (total h) (total (part i j h)) (fittedMass h (blocks w h) i j) (mass-count i j o l) (total-part-le i j h (omega arith))
 
-  pub monotone-cost : (e : Closeness) → 1 ≤ length h → cost e w h ≡ negℤ (pos (bar e (length h)))
+  pub monotone-cost : (e : Closeness) → 1 ≤ length h → cost e w h ≡ negℤ (bar e (length h))
   unfolding cost
   monotone-cost e some =
       let found = largest-part h (blocks w h) some in
-      ap (λ (z : ℤ). z -ℤ pos (bar e (length h))) (found .4 ∙ part-weight-zero (found .0) (found .1) (found .2) (found .3)) ∙ +ℤ-idl _
+      ap (λ (z : ℤ). z -ℤ bar e (length h)) (found .4 ∙ part-weight-zero (found .0) (found .1) (found .2) (found .3)) ∙ +ℤ-idl _

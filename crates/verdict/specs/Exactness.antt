@@ -4,7 +4,8 @@ use mathlib.Core.Path.{_≡_}
 use mathlib.Core.Bool.{true, false}
 use mathlib.Core.List.{List}
 use lib.ListN.{length, getD}
-use lib.IntN.{pos, negℤ, _*ℤ_}
+use lib.IntN.{pos, negsuc, negℤ, _*ℤ_}
+use lib.Signed.{_≤ℤ_}
 use Rattle.lists.specs.Lists.{total, part}
 use Rattle.logarithm.specs.Log.{unitsPerBit}
 use Rattle.pooling.specs.Blocks.{Direction, increasing, decreasing, blocks}
@@ -21,9 +22,19 @@ observed n k m = (k * m .den) ^ k * ((n - k) * m .den) ^ (n - k)
 unfoldable pub expected : ℕ → ℕ → Mass → ℕ
 expected n k m = m .num ^ k * (n * m .den - m .num) ^ (n - k)
 
--- T7: what X/Y is compared with
+-- T7: 2^e unless e is negative, else 1
+unfoldable pub powerAbove : Closeness → ℕ
+powerAbove (pos n) = 2 ^ n
+powerAbove (negsuc n) = 1
+
+-- T7: 2^−e if e is negative, else 1. It stands beside X, on the other side
+unfoldable pub powerBelow : Closeness → ℕ
+powerBelow (pos n) = 1
+powerBelow (negsuc n) = 2 ^ suc n
+
+-- T7: what X/Y is compared with, without the power of two of a negative closeness
 unfoldable pub exactBar : Closeness → ℕ → ℕ
-exactBar e l = 2 ^ e * (l * suc l / 2)
+exactBar e l = powerAbove e * (l * suc l / 2)
 
 -- L1: what the logarithms of a weight require of a part that holds k of the n counts: kB, (N−k)B, A and NB−A are below 2^32, and 1 or more if their factor is not 0
 pub record LogsDefined (n k : ℕ) (m : Mass) : Type 0 where
@@ -43,9 +54,9 @@ abbrev pub Monotone : Direction → List ℕ → Type 0
 Monotone w h = (i : ℕ) → suc i < length h → InOrder w (getD h i 0) (getD h (suc i) 0)
 
 module _ (e : Closeness) (w : Direction) (h : List ℕ) where
-  -- X of the part from bin i to bin j
+  -- T7: X of the part from bin i to bin j, times the power of two of a negative closeness
   unfoldable pub partX : ℕ → ℕ → ℕ
-  partX i j = observed (total h) (total (part i j h)) (fittedMass h (blocks w h) i j)
+  partX i j = powerBelow e * observed (total h) (total (part i j h)) (fittedMass h (blocks w h) i j)
 
   -- the Y of that part, times the bar
   unfoldable pub partBar : ℕ → ℕ → ℕ
@@ -60,10 +71,15 @@ module _ (e : Closeness) (w : Direction) (h : List ℕ) where
   pub record BelowBar (i j : ℕ) : Type 0 where
     pub below : partX i j ^ unitsPerBit < partBar i j ^ unitsPerBit * 2 ^ (2 * total h)
 
+  -- T9: only the missing step decides: at its cost the stretch would be rejected
+  pub record ByClause : Type 0 where
+    pub along : Monotone w h
+    pub dear : pos 0 ≤ℤ cost e w h
+
   -- T8 and T9: the verdict agrees with the exact figures outside the band
   pub record Exact : Type 0 where
     pub rejection : rejected e w h ≡ true → (i : ℕ) × (j : ℕ) × Above i j
-    pub acceptance : rejected e w h ≡ false → (i j : ℕ) → i ≤ j → j < length h → BelowBar i j
+    pub acceptance : rejected e w h ≡ false → ¬ ByClause → (i j : ℕ) → i ≤ j → j < length h → BelowBar i j
 
   -- T2: A/B is the sum of the fitted means over the part: A·D = B·(that sum times D), for every common denominator D
   pub record MassOfFit (i j : ℕ) : Type 0 where
@@ -73,13 +89,14 @@ module _ (e : Closeness) (w : Direction) (h : List ℕ) where
         ≡ pos (fittedMass h (blocks w h) i j .den) *ℤ sumOf D (part i j (means (blocks w h)))
 
   -- D2 and D3: what stands behind the verdict of the stretch h: its fit, fitted masses that are those of the fit, and the exact relative entropy.
-  -- A stretch that is already monotone in the tested direction has weight 0 in every part, so its cost is minus the bar
+  -- A stretch that is already monotone in the tested direction has weight 0 in every part, so its cost is minus the bar; it is never rejected (T6)
   pub record VerdictSound : Type 0 where
     pub fit : Pooled w h
     pub masses : (i j : ℕ) → i ≤ j → j < length h → MassOfFit i j
     pub inRange : (i j : ℕ) → i ≤ j → j < length h → LogsDefined (total h) (total (part i j h)) (fittedMass h (blocks w h) i j)
-    pub exact : 2 ≤ length h → Exact
-    pub monotone : 1 ≤ length h → Monotone w h → cost e w h ≡ negℤ (pos (bar e (length h)))
+    pub exact : 1 ≤ length h → Exact
+    pub monotone : 1 ≤ length h → Monotone w h → cost e w h ≡ negℤ (bar e (length h))
+    pub clause : Monotone w h → rejected e w h ≡ false
 
 -- proved in proofs/Sound. A ring of up to 256 bins and 65,536 counts with its lowest bin repeated has up to 257 bins and 98,304 counts (two equal bins become three);
 -- then NB is at most 98,304 · 128 · 129, within the logarithm's range

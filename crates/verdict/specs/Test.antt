@@ -3,27 +3,30 @@
 --   Mass         a part's fitted mass A/B (num/den)
 --   bar, cost    Θ, and the largest weight W less Θ
 use Prim.Native.Nat.{ℕ, suc, _+_, _*_, _-_, _/_}
-use mathlib.Core.Bool.{Bool, cond, _&&_}
-use mathlib.Core.List.{List}
-use lib.Dec.{leb, eqb}
+use mathlib.Core.Bool.{Bool, false, cond, _&&_, _||_}
+use mathlib.Core.List.{List, [], _∷_}
+use lib.Dec.{ltb, eqb}
 use lib.ListN.{length, take, drop, getD}
-use lib.IntN.{ℤ, pos, subℕ, _-ℤ_}
+use lib.IntN.{ℤ, pos, negsuc, subℕ, _+ℤ_, _-ℤ_, _*ℤ_}
 use lib.Signed.{leZ}
 use Rattle.lists.specs.Lists.{total, part, largest}
 use Rattle.logarithm.specs.Log.{unitsPerBit, lg}
 use Rattle.pooling.specs.declared.Block.{Block}
 use Rattle.pooling.specs.declared.Place.{Place}
-use Rattle.pooling.specs.Blocks.{Direction, blocks, placesFrom}
+use Rattle.pooling.specs.Blocks.{Direction, increasing, decreasing, blocks, placesFrom}
 use Rattle.verdict.specs.declared.Mass.{Mass}
 use Rattle.verdict.specs.declared.Verdict.{Verdict}
 
--- T4: how many bits of evidence a stretch must show before it is rejected, in addition to those that its number of parts calls for
+-- T4: how many bits of evidence a stretch must show before it is rejected, in addition to those that its number of parts calls for; if negative, how many fewer
 abbrev pub Closeness : Type 0
-Closeness = ℕ
+Closeness = ℤ
 
--- G8: the largest closeness that a call takes
+-- G8: the least and the largest closeness that a call takes: −10 and 20
+unfoldable pub leastCloseness : Closeness
+leastCloseness = negsuc 9
+
 unfoldable pub mostCloseness : Closeness
-mostCloseness = 20
+mostCloseness = pos 20
 
 -- the place of bin i
 unfoldable pub placeOf : List Block → ℕ → Place
@@ -63,9 +66,9 @@ weight n k m =
 unfoldable pub partWeight : List ℕ → List Block → ℕ → ℕ → ℤ
 partWeight h bs i j = weight (total h) (total (part i j h)) (fittedMass h bs i j)
 
--- T4: a stretch of l bins has l(l+1)/2 parts
-unfoldable pub bar : Closeness → ℕ → ℕ
-bar e l = lg (l * suc l / 2) + e * unitsPerBit
+-- T4: a stretch of l bins has l(l+1)/2 parts. At a negative closeness the bar may be 0 or less
+unfoldable pub bar : Closeness → ℕ → ℤ
+bar e l = pos (lg (l * suc l / 2)) +ℤ e *ℤ pos unitsPerBit
 
 -- T5: over every part from i to j, i ≤ j, of a stretch of one bin or more
 unfoldable pub largestWeight : List ℕ → List Block → ℤ
@@ -73,11 +76,22 @@ largestWeight h bs = largest (length h - 1) (λ j. largest j (λ i. partWeight h
 
 -- T5: the largest weight less the bar
 unfoldable pub cost : Closeness → Direction → List ℕ → ℤ
-cost e w h = largestWeight h (blocks w h) -ℤ pos (bar e (length h))
+cost e w h = largestWeight h (blocks w h) -ℤ bar e (length h)
 
--- T6: one bin alone is never rejected
+-- T6: from a to b is a step against the direction
+abbrev pub against : Direction → ℕ → ℕ → Bool
+against increasing a b = ltb b a
+against decreasing a b = ltb a b
+
+-- T6: some step from a bin to the next goes against the direction
+unfoldable pub stepAgainst : Direction → List ℕ → Bool
+stepAgainst w [] = false
+stepAgainst w (a ∷ []) = false
+stepAgainst w (a ∷ b ∷ h) = against w a b || stepAgainst w (b ∷ h)
+
+-- T6: without a step against the direction, as in one bin alone, a stretch is never rejected, whatever it costs
 unfoldable pub rejected : Closeness → Direction → List ℕ → Bool
-rejected e w h = leb 2 (length h) && leZ (pos 0) (cost e w h)
+rejected e w h = stepAgainst w h && leZ (pos 0) (cost e w h)
 
 -- T6: cost and rejection in one
 unfoldable pub verdictOf : Closeness → Direction → List ℕ → Verdict

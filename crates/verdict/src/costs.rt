@@ -15,7 +15,8 @@ ghost use lib.ListN.{length};
 ghost use lib.Signed.{ltZ, mag, _≤ℤ_};
 ghost use Rattle.logarithm.specs.Sheet.{logSheet};
 ghost use Rattle.pooling.specs.Blocks.{direction, blocks};
-ghost use Rattle.verdict.specs.Test.{partWeight, cost, mostCloseness};
+ghost use Rattle.verdict.specs.Test.{partWeight, cost};
+ghost use Rattle.verdict.specs.Settings.{lastSetting, closenessOf};
 ghost use Rattle.verdict.specs.Scratch.{Small, Scratch, Capped, Attained, BestOf, EndingAt, firstOf, endOf, Turn, Part};
 
 // A cap that no cost reaches: 2^62 - 1.
@@ -201,13 +202,13 @@ pub fn capped_cost(
     sheet: &[u32; SHEET_SIZE],
     h: &[u32],
     rising: bool,
-    closeness: u32,
+    setting: u32,
     cap: i64,
 ) -> i64
     requires { ⌜ Small (now h) ⌝ }
-    requires { ⌜ (1 ≤ length (now h)) × (closeness ≤ mostCloseness) ⌝ }
+    requires { ⌜ (1 ≤ length (now h)) × (setting ≤ lastSetting) ⌝ }
     requires { ⌜ (mag cap < 2 ^ 62) × (now sheet ≡ logSheet) ⌝ }
-    ensures { λ r. ⌜ Capped cap (cost closeness (direction rising) (now (h .entry))) r ⌝ }
+    ensures { λ r. ⌜ Capped cap (cost (closenessOf setting) (direction rising) (now (h .entry))) r ⌝ }
 {
     let mut before = [0u32; 258];
     let mut starts = [0u32; 257];
@@ -215,7 +216,7 @@ pub fn capped_cost(
     let mut lens = [0u32; 257];
     running_totals(h, &mut before);
     fit_places(h, rising, &mut starts, &mut sums, &mut lens);
-    let height = bar(sheet, closeness as u64, h.len() as u64);
+    let height = bar(sheet, setting as u64, h.len() as u64);
     let best = best_weight(
         sheet,
         h,
@@ -230,11 +231,11 @@ pub fn capped_cost(
 }
 
 // The cost of a stretch of one bin or more.
-pub fn cost(h: &[u32], rising: bool, closeness: u32) -> i64
+pub fn cost(h: &[u32], rising: bool, setting: u32) -> i64
     requires { ⌜ Small (now h) ⌝ }
-    requires { ⌜ (1 ≤ length (now h)) × (closeness ≤ mostCloseness) ⌝ }
-    ensures { λ r. ⌜ r ≡ cost closeness (direction rising) (now (h .entry)) ⌝ }
+    requires { ⌜ (1 ≤ length (now h)) × (setting ≤ lastSetting) ⌝ }
+    ensures { λ r. ⌜ r ≡ cost (closenessOf setting) (direction rising) (now (h .entry)) ⌝ }
 {
     let sheet = logarithm::copied_sheet();
-    capped_cost(&sheet, h, rising, closeness, NO_CAP)
+    capped_cost(&sheet, h, rising, setting, NO_CAP)
 }

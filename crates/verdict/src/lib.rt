@@ -1,10 +1,12 @@
 // The test of a stretch of bins: how far its parts are from a monotone fit, and whether that is too far.
-// `judge` gives the verdict of one stretch in one direction at one closeness.
+// `judge` gives the verdict of one stretch in one direction at one closeness, which it takes as a setting; `setting_of` gives that.
+mod against;
 mod costs;
 mod parts;
 mod signed;
 mod weights;
 
+use against::step_against;
 pub use costs::capped_cost;
 use costs::cost;
 use signed::not_negative;
@@ -12,11 +14,17 @@ ghost use mathlib.Core.Path.{_≡_};
 ghost use Prim.Native.Nat.{_≤_};
 ghost use lib.ListN.{length};
 ghost use Rattle.pooling.specs.Blocks.{direction};
-ghost use Rattle.verdict.specs.Test.{verdictOf, mostCloseness};
+ghost use Rattle.verdict.specs.Test.{verdictOf};
+ghost use Rattle.verdict.specs.Settings.{lastSetting, closenessOf, Offered};
 ghost use Rattle.verdict.specs.Scratch.{Small};
 
-// The largest closeness. Each step of it asks for one more bit of evidence before a stretch is rejected (rule T4).
-pub const MOST_CLOSENESS: u32 = 20;
+// The least and the largest closeness. Each 1 of it asks for one more bit of evidence before a stretch is rejected (rule T4).
+pub const LEAST_CLOSENESS: i32 = -10;
+
+pub const MOST_CLOSENESS: i32 = 20;
+
+// The setting of closeness 0. Settings count up from the least closeness, so the code hands on an unsigned number.
+const SETTINGS_BELOW: u64 = 10;
 
 // A part's fitted mass A/B (rules T1 and T2).
 pub struct Mass {
@@ -31,21 +39,23 @@ pub struct Verdict {
     pub rejected: bool,
 }
 
-// The verdict of a stretch of one bin or more.
-pub fn judge(h: &[u32], rising: bool, closeness: u32) -> Verdict
-    requires { ⌜ Small (now h) ⌝ }
-    requires { ⌜ (1 ≤ length (now h)) × (closeness ≤ mostCloseness) ⌝ }
-    ensures { λ r. ⌜ r ≡ verdictOf closeness (direction rising) (now (h .entry)) ⌝ }
+// The setting of a closeness.
+pub fn setting_of(closeness: i32) -> u32
+    requires { ⌜ Offered closeness ⌝ }
+    ensures { λ r. ⌜ (r ≤ lastSetting) × (closenessOf r ≡ closeness) ⌝ }
 {
-    let found = cost(h, rising, closeness);
-    if h.len() < 2 {
-        return Verdict {
-            cost: found,
-            rejected: false,
-        };
-    }
+    (closeness - LEAST_CLOSENESS) as u32
+}
+
+// The verdict of a stretch of one bin or more. Without a step against the direction it is never rejected, whatever it costs.
+pub fn judge(h: &[u32], rising: bool, setting: u32) -> Verdict
+    requires { ⌜ Small (now h) ⌝ }
+    requires { ⌜ (1 ≤ length (now h)) × (setting ≤ lastSetting) ⌝ }
+    ensures { λ r. ⌜ r ≡ verdictOf (closenessOf setting) (direction rising) (now (h .entry)) ⌝ }
+{
+    let found = cost(h, rising, setting);
     Verdict {
         cost: found,
-        rejected: not_negative(found),
+        rejected: step_against(h, rising) && not_negative(found),
     }
 }

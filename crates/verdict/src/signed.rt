@@ -1,4 +1,4 @@
-// Signed figures: the difference of two sums, the larger of two, the sign, and adding and subtracting an unsigned figure.
+// Signed figures: the difference of two sums, the larger of two, the sign, adding and subtracting.
 ghost use mathlib.Core.Path.{_≡_};
 ghost use mathlib.Core.Bool.{cond};
 ghost use Prim.Native.Nat.{_<_, _^_};
@@ -27,18 +27,18 @@ pub fn not_negative(x: i64) -> bool
     0 <= x
 }
 
-// x minus b.
-pub fn less(x: i64, b: u64) -> i64
-    requires { ⌜ (mag x < 2 ^ 62) × (b < 2 ^ 62) ⌝ }
-    ensures { λ r. ⌜ r ≡ x -ℤ pos b ⌝ }
+// x minus y.
+pub fn less(x: i64, y: i64) -> i64
+    requires { ⌜ (mag x < 2 ^ 62) × (mag y < 2 ^ 62) ⌝ }
+    ensures { λ r. ⌜ r ≡ x -ℤ y ⌝ }
 {
-    x - (b as i64)
+    x - y
 }
 
-// x plus b.
-pub fn sum(x: i64, b: u64) -> i64
-    requires { ⌜ (mag x < 2 ^ 62) × (b < 2 ^ 62) ⌝ }
-    ensures { λ r. ⌜ r ≡ x +ℤ pos b ⌝ }
+// x plus y.
+pub fn sum(x: i64, y: i64) -> i64
+    requires { ⌜ (mag x < 2 ^ 62) × (mag y < 2 ^ 62) ⌝ }
+    ensures { λ r. ⌜ r ≡ x +ℤ y ⌝ }
 {
-    x + (b as i64)
+    x + y
 }

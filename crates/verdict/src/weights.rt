@@ -1,5 +1,6 @@
 // The weight of a part of a stretch, and the bar that weights are compared with.
 use crate::Mass;
+use crate::SETTINGS_BELOW;
 use crate::signed::difference;
 use logarithm::Logarithm;
 use logarithm::SHEET_SIZE;
@@ -8,7 +9,8 @@ ghost use Prim.Native.Nat.{_+_, _*_, _≤_};
 ghost use lib.IntN.{subℕ};
 ghost use Rattle.logarithm.specs.Log.{Loggable, lg};
 ghost use Rattle.logarithm.specs.Sheet.{logSheet};
-ghost use Rattle.verdict.specs.Test.{weight, bar, mostCloseness};
+ghost use Rattle.verdict.specs.Test.{weight, bar};
+ghost use Rattle.verdict.specs.Settings.{lastSetting, closenessOf};
 ghost use Rattle.verdict.specs.Exactness.{LogsDefined};
 
 // The weight where one term has all n counts as its factor: the other term's factor is 0, and its logarithms are not taken.
@@ -58,10 +60,13 @@ pub fn weight(sheet: &[u32; SHEET_SIZE], n: u64, k: u64, m: Mass) -> i64
     )
 }
 
-// The bar of a stretch of `bins` bins.
-pub fn bar(sheet: &[u32; SHEET_SIZE], closeness: u64, bins: u64) -> u64
-    requires { ⌜ (closeness ≤ mostCloseness) × (1 ≤ bins) × (bins ≤ 257) × (now sheet ≡ logSheet) ⌝ }
-    ensures { λ r. ⌜ r ≡ bar closeness bins ⌝ }
+// The bar of a stretch of `bins` bins. At a closeness below 0 it can be negative.
+pub fn bar(sheet: &[u32; SHEET_SIZE], setting: u64, bins: u64) -> i64
+    requires { ⌜ (setting ≤ lastSetting) × (1 ≤ bins) × (bins ≤ 257) × (now sheet ≡ logSheet) ⌝ }
+    ensures { λ r. ⌜ r ≡ bar (closenessOf setting) bins ⌝ }
 {
-    logarithm::lg(sheet, bins * (bins + 1) / 2) + Logarithm::units(closeness)
+    difference(
+        logarithm::lg(sheet, bins * (bins + 1) / 2) + Logarithm::units(setting),
+        Logarithm::units(SETTINGS_BELOW),
+    )
 }

@@ -1,14 +1,16 @@
 -- `capped_cost` meets its contract: the tables are those of the stretch, and the limit is the cap and the bar. Assumes nothing.
 use mathlib.Core.Path.{_≡_, ap₂, _∙_}
-use Prim.Native.Nat.{ℕ, _^_, _≤_}
+use Prim.Native.Nat.{_^_, _≤_, _<_}
 use native.Mathlib.Omega.{arith}
 use lib.ListN.{length}
-use lib.IntN.{ℤ, pos, _+ℤ_}
+use lib.IntN.{ℤ, _+ℤ_}
+use lib.Signed.{mag}
 use mir.Syntax.{w64}
 use mir.Val.{toZ, ofZ}
 use mir.ValLaws.{toZ-ofZ}
 use Rattle.pooling.specs.Blocks.{direction}
 use Rattle.verdict.specs.Test.{bar}
+use Rattle.verdict.specs.Settings.{closenessOf}
 use Rattle.verdict.proofs.Machine.{handed-back}
 use Rattle.verdict.proofs.Scratch.{places-held}
 use Rattle.verdict.proofs.Sizes.{bar-small}
@@ -45,16 +47,19 @@ fit c = c .before .before .before .before .before .before .before .before
 abbrev entry : tie.After-fit-places → tie.Start
 entry c = c .before .before .before .before .before .before .before
 
-height-small : (c : tie.After-lens3) → height c .bar .result ≤ 2 ^ 46
+height-is : (c : tie.After-lens3) → let s = entry (fit c) in toZ w64 (ofZ w64 (height c .bar .result)) ≡ bar (closenessOf (s .args .setting)) (length (s .args .h .now))
+height-is c = handed-back (height c .bar .ok) ∙ height c .bar .ensures
+
+height-small : (c : tie.After-lens3) → mag (toZ w64 (ofZ w64 (height c .bar .result))) < 2 ^ 47
 height-small c =
     let s = entry (fit c) in
-    rw (height c .bar .ensures) (bar-small (s .args .closeness) (length (s .args .h .now)) (s .pre .1 .0 .1) (s .pre .1 .0 .0) (s .pre .0 .bins))
+    rw (height-is c) (bar-small (s .args .setting) (length (s .args .h .now)) (s .pre .1 .0 .1) (s .pre .1 .0 .0) (s .pre .0 .bins))
 
-limit-is : (c : tie.After-sum) → let s = entry (fit (c .before)) in toZ w64 (ofZ w64 (c .sum .result)) ≡ s .args .cap +ℤ pos (bar (s .args .closeness) (length (s .args .h .now)))
+limit-is : (c : tie.After-sum) → let s = entry (fit (c .before)) in toZ w64 (ofZ w64 (c .sum .result)) ≡ s .args .cap +ℤ bar (closenessOf (s .args .setting)) (length (s .args .h .now))
 limit-is c =
     let s = entry (fit (c .before)) in
     handed-back (c .sum .ok) ∙ c .sum .ensures
-    ∙ ap₂ (λ (x : ℤ) (n : ℕ). x +ℤ pos n) (toZ-ofZ w64 (s .args .cap) (s .fits .cap)) (height (c .before) .bar .ensures)
+    ∙ ap₂ (λ (x y : ℤ). x +ℤ y) (toZ-ofZ w64 (s .args .cap) (s .fits .cap)) (height-is (c .before))
 
 sum-requires : tie.Need-sum-requires
 sum-requires c κs =
@@ -86,8 +91,8 @@ returns : tie.Need-returns
 returns c =
     let s = entry (fit (c .before .before .before)) in
     let b = c .before .best-weight in
-    rw (handed-back {z = c .less .result} (c .less .ok), c .less .ensures, handed-back {z = c .before .best-weight .result} (b .ok), height (c .before .before .before) .bar .ensures)
-    (capped-cost-is (s .args .closeness) (direction (s .args .rising)) (s .args .h .now) (s .args .cap) (c .before .best-weight .result) (s .pre .0) (s .pre .1 .0 .0) (s .pre .1 .0 .1)
+    rw (handed-back {z = c .less .result} (c .less .ok), c .less .ensures, handed-back {z = c .before .best-weight .result} (b .ok), height-is (c .before .before .before))
+    (capped-cost-is (s .args .setting) (direction (s .args .rising)) (s .args .h .now) (s .args .cap) (c .before .best-weight .result) (s .pre .0) (s .pre .1 .0 .0) (s .pre .1 .0 .1)
     (rw (limit-is (c .before .before)) at (b .ensures)))
 
 pub capped-cost-spec : {M : Type 1} → statement M

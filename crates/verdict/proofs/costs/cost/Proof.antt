@@ -17,7 +17,7 @@ returns : tie.Need-returns
 returns c =
     let s = c .before .before .before .before in
     handed-back (c .capped-cost .ok)
-    ∙ c .capped-cost .ensures .below (cost-below (s .args .closeness) (direction (s .args .rising)) (s .args .h .now) (s .pre .0) (s .pre .1 .0))
+    ∙ c .capped-cost .ensures .below (cost-below (s .args .setting) (direction (s .args .rising)) (s .args .h .now) (s .pre .0) (s .pre .1 .0) (s .pre .1 .1))
 
 pub cost-spec : {M : Type 1} → statement M
 cost-spec = tie.close (tie.spec copied-sheet-requires capped-cost-requires returns)
