@@ -13,6 +13,7 @@ use Rattle.lists.proofs.Sums.{total-more, total-take-le}
 use Rattle.lists.proofs.Places.{map-at}
 use Rattle.pixel.specs.declared.Pixel.{Pixel}
 use Rattle.verdict.specs.Test.{Closeness}
+use Rattle.verdict.specs.Settings.{closenessOf}
 use Rattle.palette.specs.Levels.{Level, binCount}
 use Rattle.palette.specs.Cards.{pixelsOf}
 use Rattle.dividing.specs.Sorted.{codeCount, modeBase, AllBelow, tally}
@@ -33,28 +34,28 @@ marks-in e l keys below i k =
     let u : i < length keys = omega (arith, length-map keys (modeOf e l h)) in
     rw (map-at (modeOf e l h) keys i 0 0 u) (mode-below e l h (tally-length (binCount l) keys) (getD keys i 0) (below i u))
 
-module _ (node : Node) (bytes order sizes sorted : List ℕ) (n : ℕ) (s : RangeSorted (node .closeness) (pixelsOf bytes) (levelAt (node .left)) order sizes sorted n) where
+module _ (node : Node) (bytes order sizes sorted : List ℕ) (n : ℕ) (s : RangeSorted (closenessOf (node .setting)) (pixelsOf bytes) (levelAt (node .left)) order sizes sorted n) where
   few-modes : n ≤ modeBase
-  few-modes = omega (arith, s .modes, modes-in-base (node .closeness) (pixelsOf bytes) (levelAt (node .left)) (binsOf (pixelsOf bytes) (levelAt (node .left)) order))
+  few-modes = omega (arith, s .modes, modes-in-base (closenessOf (node .setting)) (pixelsOf bytes) (levelAt (node .left)) (binsOf (pixelsOf bytes) (levelAt (node .left)) order))
 
   pub modes-fit : n ≤ length sizes
-  modes-fit = omega (arith, few-modes, ap length (s .counts), tally-length modeBase (marksOf (node .closeness) (levelAt (node .left)) (binsOf (pixelsOf bytes) (levelAt (node .left)) order)))
+  modes-fit = omega (arith, few-modes, ap length (s .counts), tally-length modeBase (marksOf (closenessOf (node .setting)) (levelAt (node .left)) (binsOf (pixelsOf bytes) (levelAt (node .left)) order)))
 
   pub split-walkable : (other keys keys′ : List ℕ) → Divisible node bytes order other keys → 1 ≤ node .left → ((j : ℕ) → getD bytes j 0 < 256)
       → length sorted ≡ length other → length keys′ ≡ length keys
-      → Walkable (record { closeness = node .closeness; left = node .left - 1; code = node .code * modeBase; found = node .found }) (take n sizes) bytes sorted order keys′
+      → Walkable (record { setting = node .setting; left = node .left - 1; code = node .code * modeBase; found = node .found }) (take n sizes) bytes sorted order keys′
   unfolding marksOf
   split-walkable other keys keys′ d some byte other′ same =
       let l = levelAt (node .left) in
       let bins = binsOf (pixelsOf bytes) l order in
-      let ks = marksOf (node .closeness) l bins in
+      let ks = marksOf (closenessOf (node .setting)) l bins in
       let long : length (take n sizes) ≡ n = length-take-le n sizes modes-fit in
-      let below : AllBelow ks n = rw (s .modes) (marks-in (node .closeness) l bins (keys-below bytes byte l order bins refl)) in
+      let below : AllBelow ks n = rw (s .modes) (marks-in (closenessOf (node .setting)) l bins (keys-below bytes byte l order bins refl)) in
       let more = room-more (node .left) some in
       let times = mul-le-mul-right (modeBase ^ (node .left - 1)) few-modes in
       record {
         left = omega (arith, d .left);
-        closeness = d .closeness;
+        setting = d .setting;
         room = rw long (omega (arith, d .room));
         codes = rw long (omega (arith, d .codes, ap (λ (j : ℕ). node .code * j) more));
         lists = other′ ∙ sym (d .lists);
@@ -150,7 +151,7 @@ pub record Walks (node : Node) (parts bytes : List ℕ) (l₀ : Lists) (m at : �
   pub codesLong : length (l .codes) ≡ length (l₀ .codes)
   pub sizesLong : length (l .sizes) ≡ length (l₀ .sizes)
   pub ahead : drop at (l .order) ≡ drop at (l₀ .order)
-  pub walkedSo : Split (walked (node .closeness) (pixelsOf bytes) (node .left) (node .code) (take m parts) (take at (l₀ .order))) (node .found) (l₀ .codes) (l₀ .sizes) (l .codes) (l .sizes)
+  pub walkedSo : Split (walked (closenessOf (node .setting)) (pixelsOf bytes) (node .left) (node .code) (take m parts) (take at (l₀ .order))) (node .found) (l₀ .codes) (l₀ .sizes) (l .codes) (l .sizes)
       (resting (node .left) (take at (l .order)) (take at (l .other))) found′
 
 resting-none : (n : ℕ) → resting n [] [] ≡ []
@@ -173,7 +174,7 @@ module _ (node : Node) (parts bytes : List ℕ) (l₀ : Lists) (d : Walkable nod
   }
 
   module _ (m at : ℕ) (l : Lists) (found′ : ℕ) (w : Walks node parts bytes l₀ m at l found′) where
-    pub walks-all : length parts ≤ m → Split (walked (node .closeness) (pixelsOf bytes) (node .left) (node .code) parts (l₀ .order)) (node .found) (l₀ .codes) (l₀ .sizes) (l .codes) (l .sizes) (resting (node .left) (l .order) (l .other)) found′
+    pub walks-all : length parts ≤ m → Split (walked (closenessOf (node .setting)) (pixelsOf bytes) (node .left) (node .code) parts (l₀ .order)) (node .found) (l₀ .codes) (l₀ .sizes) (l .codes) (l .sizes) (resting (node .left) (l .order) (l .other)) found′
     walks-all end =
         let all = take-all m parts end in
         let over : at ≡ length (l₀ .order) = w .start ∙ ap total all ∙ d .whole in
@@ -192,7 +193,7 @@ module _ (node : Node) (parts bytes : List ℕ) (l₀ : Lists) (d : Walkable nod
           let long = length-take-le (at + getD parts m 0 - at) (drop at (l .order)) (omega (arith, walks-fit, w .orderLong, length-drop at (l .order))) in
           rw (getD-take (at + getD parts m 0 - at) (drop at (l .order)) i 0 (omega arith), w .ahead, getD-drop at (l₀ .order) i 0) (d .inside (at + i) (omega (arith, walks-fit)))
 
-      pub walks-divisible : Divisible (record { closeness = node .closeness; left = node .left; code = node .code + m; found = found′ }) bytes
+      pub walks-divisible : Divisible (record { setting = node .setting; left = node .left; code = node .code + m; found = found′ }) bytes
           (take (at + getD parts m 0 - at) (drop at (l .order))) (take (at + getD parts m 0 - at) (drop at (l .other))) (l .keys)
       walks-divisible =
           let s = getD parts m 0 in
@@ -200,11 +201,11 @@ module _ (node : Node) (parts bytes : List ℕ) (l₀ : Lists) (d : Walkable nod
           let second = part-long at s (l .other) (omega (arith, walks-fit, w .otherLong, d .lists)) in
           let some : m + 1 ≤ length parts = omega arith in
           let codes : node .code + m + 1 ≤ node .code + length parts = omega arith in
-          let few = walked-few (node .closeness) (pixelsOf bytes) (node .left) (node .code) (take m parts) (take at (l₀ .order)) in
+          let few = walked-few (closenessOf (node .setting)) (pixelsOf bytes) (node .left) (node .code) (take m parts) (take at (l₀ .order)) in
           let many = ap (λ (j : ℕ). j * modeBase ^ node .left) (length-take-le m parts (omega arith)) in
           record {
             left = omega (arith, d .left);
-            closeness = d .closeness;
+            setting = d .setting;
             room = omega (arith, d .room, w .walkedSo .count, few, many, mul-le-mul-right (modeBase ^ node .left) some);
             codes = omega (arith, d .codes, mul-le-mul-right (modeBase ^ node .left) codes);
             lists = first ∙ sym second;
@@ -217,7 +218,7 @@ module _ (node : Node) (parts bytes : List ℕ) (l₀ : Lists) (d : Walkable nod
       -- the next mode split, in parts of the two lists
       pub walks-more : (u v keys codes sizes : List ℕ) (found″ : ℕ) → length u ≡ length (take (at + getD parts m 0 - at) (drop at (l .order)))
           → length v ≡ length (take (at + getD parts m 0 - at) (drop at (l .other))) → length keys ≡ length (l .keys) → length codes ≡ length (l .codes) → length sizes ≡ length (l .sizes)
-          → Split (leaves (node .closeness) (pixelsOf bytes) (node .left) (node .code + m) (take (at + getD parts m 0 - at) (drop at (l .order)))) found′ (l .codes) (l .sizes) codes sizes (resting (node .left) u v) found″
+          → Split (leaves (closenessOf (node .setting)) (pixelsOf bytes) (node .left) (node .code + m) (take (at + getD parts m 0 - at) (drop at (l .order)))) found′ (l .codes) (l .sizes) codes sizes (resting (node .left) u v) found″
           → Walks node parts bytes l₀ (m + 1) (at + getD parts m 0)
           (record { order = putMid at (at + getD parts m 0 - at) (l .order) u; other = putMid at (at + getD parts m 0 - at) (l .other) v; keys = keys; codes = codes; sizes = sizes }) found″
       walks-more u v keys codes sizes found″ lu lv lk lc ls r =
@@ -231,10 +232,10 @@ module _ (node : Node) (parts bytes : List ℕ) (l₀ : Lists) (d : Walkable nod
           let long : length (take s (drop at xs)) ≡ s = ap length (sym own) ∙ part-long at s (l .order) fit in
           let many : length (take m parts) ≡ m = length-take-le m parts (omega arith) in
           let leads : total (take m parts) ≡ length (take at xs) = sym (w .start) ∙ sym (length-take-le at xs (omega (arith, walks-fit))) in
-          let all : walked (node .closeness) (pixelsOf bytes) (node .left) (node .code) (take (m + 1) parts) (take (at + s) xs)
-          ≡ walked (node .closeness) (pixelsOf bytes) (node .left) (node .code) (take m parts) (take at xs) ++ leaves (node .closeness) (pixelsOf bytes) (node .left) (node .code + m) (take s (drop at xs)) =
-          ap₂ (walked (node .closeness) (pixelsOf bytes) (node .left) (node .code)) more′ (take-add at s xs) ∙ walked-last (node .closeness) (pixelsOf bytes) (node .left) (node .code) (take m parts) s (take at xs) (take s (drop at xs)) leads long
-          ∙ ap (λ (j : ℕ). walked (node .closeness) (pixelsOf bytes) (node .left) (node .code) (take m parts) (take at xs) ++ leaves (node .closeness) (pixelsOf bytes) (node .left) (node .code + j) (take s (drop at xs))) many in
+          let all : walked (closenessOf (node .setting)) (pixelsOf bytes) (node .left) (node .code) (take (m + 1) parts) (take (at + s) xs)
+          ≡ walked (closenessOf (node .setting)) (pixelsOf bytes) (node .left) (node .code) (take m parts) (take at xs) ++ leaves (closenessOf (node .setting)) (pixelsOf bytes) (node .left) (node .code + m) (take s (drop at xs)) =
+          ap₂ (walked (closenessOf (node .setting)) (pixelsOf bytes) (node .left) (node .code)) more′ (take-add at s xs) ∙ walked-last (closenessOf (node .setting)) (pixelsOf bytes) (node .left) (node .code) (take m parts) s (take at xs) (take s (drop at xs)) leads long
+          ∙ ap (λ (j : ℕ). walked (closenessOf (node .setting)) (pixelsOf bytes) (node .left) (node .code) (take m parts) (take at xs) ++ leaves (closenessOf (node .setting)) (pixelsOf bytes) (node .left) (node .code + j) (take s (drop at xs))) many in
           let rests : resting (node .left) (take (at + s) (putMid at (at + s - at) (l .order) u)) (take (at + s) (putMid at (at + s - at) (l .other) v))
           ≡ resting (node .left) (take at (l .order)) (take at (l .other)) ++ resting (node .left) u v =
           ap₂ (resting (node .left)) (put-front at s (l .order) u fit lu) (put-front at s (l .other) v fit′ lv) ∙ resting-both (node .left) (take at (l .order)) u (take at (l .other)) v in

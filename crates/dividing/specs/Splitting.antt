@@ -13,7 +13,8 @@ use lib.Seq.{sets}
 use Rattle.lists.specs.Lists.{total, numbers, firstIndex, filter}
 use Rattle.pixel.specs.declared.Pixel.{Pixel}
 use Rattle.pixel.specs.Colour.{isGrey}
-use Rattle.verdict.specs.Test.{Closeness, mostCloseness}
+use Rattle.verdict.specs.Test.{Closeness}
+use Rattle.verdict.specs.Settings.{lastSetting}
 use Rattle.palette.specs.Levels.{Level, hue, saturation, intensity, binCount, binOf, modesAt, liesIn}
 use Rattle.palette.specs.Cards.{Branch, pixelsOf}
 use Rattle.palette.specs.Sound.{pixelAt, mostPixels}
@@ -103,7 +104,7 @@ pub record Split (ls : List Leaf) (found : ℕ) (codes sizes codes′ sizes′ s
 -- hue comes next; and `other` and `keys` have room for as many
 pub record Divisible (node : Node) (bytes order other keys : List ℕ) : Type 0 where
   pub left : node .left ≤ 3
-  pub closeness : node .closeness ≤ mostCloseness
+  pub setting : node .setting ≤ lastSetting
   pub room : node .found + modeBase ^ node .left ≤ 2 ^ 32
   pub codes : (node .code + 1) * modeBase ^ node .left ≤ codeCount
   pub lists : length order ≡ length other
@@ -115,7 +116,7 @@ pub record Divisible (node : Node) (bytes order other keys : List ℕ) : Type 0 
 -- the modes of a level, of the sizes `parts`, can be split one after the other
 pub record Walkable (node : Node) (parts bytes order other keys : List ℕ) : Type 0 where
   pub left : node .left ≤ 2
-  pub closeness : node .closeness ≤ mostCloseness
+  pub setting : node .setting ≤ lastSetting
   pub room : node .found + length parts * modeBase ^ node .left ≤ 2 ^ 32
   pub codes : (node .code + length parts) * modeBase ^ node .left ≤ codeCount
   pub lists : length order ≡ length other

@@ -8,7 +8,7 @@ use crate::sorting::copy;
 ghost use mathlib.Core.Path.{_≡_};
 ghost use Prim.Native.Nat.{_≤_, _*_};
 ghost use lib.ListN.{length};
-ghost use Rattle.verdict.specs.Test.{mostCloseness};
+ghost use Rattle.verdict.specs.Settings.{lastSetting, closenessOf};
 ghost use Rattle.palette.specs.Cards.{pixelsOf};
 ghost use Rattle.palette.specs.Sound.{mostPixels};
 ghost use Rattle.dividing.specs.Splitting.{resting, Split, Divisible};
@@ -30,7 +30,7 @@ fn split_some(
     sizes: &mut [u32],
 ) -> usize
     requires { ⌜ Divisible node (now pixels) (now order) (now other) (now keys) ⌝ }
-    ensures { λ r. ⌜ Split (leavesSome (node .closeness) (pixelsOf (now (pixels .entry))) (node .left) (node .code) (now (order .entry))) (node .found)
+    ensures { λ r. ⌜ Split (leavesSome (closenessOf (node .setting)) (pixelsOf (now (pixels .entry))) (node .left) (node .code) (now (order .entry))) (node .found)
         (now (codes .entry)) (now (sizes .entry)) (now (codes .exit)) (now (sizes .exit)) (resting (node .left) (now (order .exit)) (now (other .exit))) r ⌝ }
 {
     if order.len() == 0 {
@@ -43,7 +43,7 @@ fn split_some(
 // The greys' numbers stand at the front of `order` and are sorted into the end of `other`; the colours' stand at the front of `other` and are sorted into the end of `order`.
 pub fn divide_pixels(
     pixels: &[u8],
-    closeness: u32,
+    setting: u32,
     order: &mut [u16],
     other: &mut [u16],
     keys: &mut [u8],
@@ -51,13 +51,13 @@ pub fn divide_pixels(
     sizes: &mut [u32],
 ) -> usize
     requires { ⌜ (length (now pixels) ≡ 3 * length (now order)) × (length (now order) ≡ length (now other)) × (length (now keys) ≡ length (now order)) × (length (now order) ≤ mostPixels)
-        × (closeness ≤ mostCloseness) ⌝ }
-    ensures { λ r. ⌜ PixelsDivided closeness (pixelsOf (now (pixels .entry))) (now (codes .entry)) (now (sizes .entry)) (now (codes .exit)) (now (sizes .exit)) (now (order .exit)) r ⌝ }
+        × (setting ≤ lastSetting) ⌝ }
+    ensures { λ r. ⌜ PixelsDivided (closenessOf setting) (pixelsOf (now (pixels .entry))) (now (codes .entry)) (now (sizes .entry)) (now (codes .exit)) (now (sizes .exit)) (now (order .exit)) r ⌝ }
 {
     let greys = sort_kinds(pixels, order, other);
     let colours = order.len() - greys;
     let mut node = Node {
-        closeness: closeness,
+        setting: setting,
         left: FROM_INTENSITY,
         code: GREY,
         found: 0,

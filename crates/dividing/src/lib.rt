@@ -16,7 +16,7 @@ const MODES: usize = MODE_BASE as usize;
 
 // A range that may still be divided: how many levels are left, the code so far (its kind and the modes chosen), and how many entries come before it.
 pub struct Node {
-    pub closeness: u32,
+    pub setting: u32,
     pub left: usize,
     pub code: u32,
     pub found: usize,

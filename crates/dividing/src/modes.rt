@@ -8,7 +8,7 @@ ghost use mathlib.Core.Path.{_≡_};
 ghost use Prim.Native.Nat.{_≤_, _<_};
 ghost use lib.ListN.{length};
 ghost use Rattle.lists.specs.Lists.{total};
-ghost use Rattle.verdict.specs.Test.{mostCloseness};
+ghost use Rattle.verdict.specs.Settings.{lastSetting, closenessOf};
 ghost use Rattle.palette.specs.Levels.{hue, saturation, intensity, binCount};
 ghost use Rattle.palette.specs.Sound.{mostPixels};
 ghost use Rattle.dividing.specs.Sorted.{modeBase};
@@ -47,39 +47,39 @@ fn number_bins(separators: &[u32], opening: usize, modes: &mut [u8])
 }
 
 // The modes of a line of bins: how many there are, and each bin's.
-fn line_modes(h: &[u32], closeness: u32, modes: &mut [u8]) -> usize
-    requires { ⌜ (2 ≤ length (now h)) × (length (now h) ≤ binCount intensity) × (total (now h) ≤ mostPixels) × (closeness ≤ mostCloseness) × (length (now modes) ≡ length (now h)) ⌝ }
-    ensures { λ r. ⌜ LineNumbered closeness (now (h .entry)) (now (modes .exit)) r ⌝ }
+fn line_modes(h: &[u32], setting: u32, modes: &mut [u8]) -> usize
+    requires { ⌜ (2 ≤ length (now h)) × (length (now h) ≤ binCount intensity) × (total (now h) ≤ mostPixels) × (setting ≤ lastSetting) × (length (now modes) ≡ length (now h)) ⌝ }
+    ensures { λ r. ⌜ LineNumbered (closenessOf setting) (now (h .entry)) (now (modes .exit)) r ⌝ }
 {
     let mut separators = [0u32; INTENSITIES];
-    let n = line_separators(h, closeness, &mut separators) as usize - 1;
+    let n = line_separators(h, setting, &mut separators) as usize - 1;
     number_bins(&separators[..n], 0, modes);
     n
 }
 
-pub fn intensity_modes(h: [u32; INTENSITIES], closeness: u32, modes: &mut [u8]) -> usize
-    requires { ⌜ (total h ≤ mostPixels) × (closeness ≤ mostCloseness) × (length (now modes) ≡ binCount intensity) ⌝ }
-    ensures { λ r. ⌜ BinsNumbered closeness intensity h (now (modes .exit)) r ⌝ }
+pub fn intensity_modes(h: [u32; INTENSITIES], setting: u32, modes: &mut [u8]) -> usize
+    requires { ⌜ (total h ≤ mostPixels) × (setting ≤ lastSetting) × (length (now modes) ≡ binCount intensity) ⌝ }
+    ensures { λ r. ⌜ BinsNumbered (closenessOf setting) intensity h (now (modes .exit)) r ⌝ }
 {
-    line_modes(&h, closeness, modes)
+    line_modes(&h, setting, modes)
 }
 
-pub fn saturation_modes(h: [u32; SATURATIONS], closeness: u32, modes: &mut [u8]) -> usize
-    requires { ⌜ (total h ≤ mostPixels) × (closeness ≤ mostCloseness) × (length (now modes) ≡ binCount saturation) ⌝ }
-    ensures { λ r. ⌜ BinsNumbered closeness saturation h (now (modes .exit)) r ⌝ }
+pub fn saturation_modes(h: [u32; SATURATIONS], setting: u32, modes: &mut [u8]) -> usize
+    requires { ⌜ (total h ≤ mostPixels) × (setting ≤ lastSetting) × (length (now modes) ≡ binCount saturation) ⌝ }
+    ensures { λ r. ⌜ BinsNumbered (closenessOf setting) saturation h (now (modes .exit)) r ⌝ }
 {
-    line_modes(&h, closeness, modes)
+    line_modes(&h, setting, modes)
 }
 
 // The hue bins are a ring, which is opened into a line.
-pub fn hue_modes(h: [u32; HUES], closeness: u32, modes: &mut [u8]) -> usize
-    requires { ⌜ (total h ≤ mostPixels) × (closeness ≤ mostCloseness) × (length (now modes) ≡ binCount hue) ⌝ }
-    ensures { λ r. ⌜ BinsNumbered closeness hue h (now (modes .exit)) r ⌝ }
+pub fn hue_modes(h: [u32; HUES], setting: u32, modes: &mut [u8]) -> usize
+    requires { ⌜ (total h ≤ mostPixels) × (setting ≤ lastSetting) × (length (now modes) ≡ binCount hue) ⌝ }
+    ensures { λ r. ⌜ BinsNumbered (closenessOf setting) hue h (now (modes .exit)) r ⌝ }
 {
     let mut opened = [0u32; OPENED];
     let mut separators = [0u32; OPENED];
     let opening = open_ring(&h, &mut opened);
-    let n = line_separators(&opened, closeness, &mut separators) as usize - 1;
+    let n = line_separators(&opened, setting, &mut separators) as usize - 1;
     number_bins(&separators[..n], opening, modes);
     n
 }

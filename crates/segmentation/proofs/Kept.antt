@@ -13,7 +13,7 @@ use borrow.Author.Tests.{lt-ltb, le-ltb, ltb-true, eqb-true, eqb-false}
 use Rattle.lists.proofs.Cases.{by-cond, by-order, last-or}
 use Rattle.lists.proofs.Parts.{total-take-mono}
 use Rattle.pooling.specs.Blocks.{Direction, increasing, decreasing}
-use Rattle.verdict.specs.Test.{Closeness, cost, rejected}
+use Rattle.verdict.specs.Test.{Closeness, cost, stepAgainst, rejected}
 use Rattle.segmentation.specs.Segments.{Segment, segmentAt}
 use Rattle.segmentation.specs.Joining.{Reader, Join, riseOf, fallOf, lastIn, joined, join, riseCost, fallCost, joinOf}
 use Rattle.segmentation.specs.Inside.{Inside, modeCount}
@@ -256,9 +256,9 @@ below-accepts : (e : Closeness) (w : Direction) (h : List ℕ) → ltZ (cost e w
 unfolding rejected
 below-accepts e w h l = go (cost e w h) l
   where
-    go : (z : ℤ) → ltZ z (pos 0) ≡ true → (leb 2 (length h) && leZ (pos 0) z) ≡ false
+    go : (z : ℤ) → ltZ z (pos 0) ≡ true → (stepAgainst w h && leZ (pos 0) z) ≡ false
     go (pos a) t = absurd (omega (arith, ltb-true a 0 t))
-    go (negsuc a) t = and-false (leb 2 (length h))
+    go (negsuc a) t = and-false (stepAgainst w h)
 
 module _ (e : Closeness) (read : Reader) where
   abbrev Hump : Segment → Type 0

@@ -1,6 +1,5 @@
 mod Valleys
 mod FirstHumps
-mod NotRejected
 pub mod FirstCut
 mod Walking
 mod FirstHeld

@@ -8,7 +8,7 @@ use lib.ListN.{length}
 use lib.IntN.{ℤ, pos}
 use lib.Signed.{ltZ, mag, _≤ℤ_}
 use Rattle.logarithm.specs.Sheet.{logSheet}
-use Rattle.verdict.specs.Test.{Closeness, mostCloseness}
+use Rattle.verdict.specs.Settings.{lastSetting}
 use Rattle.verdict.specs.Scratch.{Small}
 use Rattle.segmentation.specs.declared.Found.{Found}
 use Rattle.segmentation.specs.Joining.{Join}
@@ -16,10 +16,10 @@ use Rattle.segmentation.specs.Finished.{Cut}
 use Rattle.segmentation.specs.Held.{segmentsHeld}
 
 -- a line h, two lists that hold its n segments, and the sheet of logarithms
-pub record LineHeld (sheet : List ℕ) (e : Closeness) (h separators peaks : List ℕ) (n : ℕ) : Type 0 where
+pub record LineHeld (sheet : List ℕ) (setting : ℕ) (h separators peaks : List ℕ) (n : ℕ) : Type 0 where
   pub logs : sheet ≡ logSheet
   pub small : Small h
-  pub close : e ≤ mostCloseness
+  pub close : setting ≤ lastSetting
   pub places : (n < length separators) × (n ≤ length peaks)
   pub cut : Cut (length h) (segmentsHeld separators peaks 0 n)
 

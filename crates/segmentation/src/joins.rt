@@ -9,7 +9,7 @@ ghost use Prim.Native.Nat.{_+_, _-_, _≤_, _<_};
 ghost use lib.ListN.{length, drop};
 ghost use lib.Seq.{paste};
 ghost use Rattle.logarithm.specs.Sheet.{logSheet};
-ghost use Rattle.verdict.specs.Test.{mostCloseness};
+ghost use Rattle.verdict.specs.Settings.{lastSetting, closenessOf};
 ghost use Rattle.verdict.specs.Scratch.{Small};
 ghost use Rattle.segmentation.specs.Joining.{lineReader, join, joinAll, lineModes};
 ghost use Rattle.segmentation.specs.Held.{segmentsHeld};
@@ -47,22 +47,22 @@ pub fn apply(separators: &mut [u32], peaks: &mut [u32], n: usize, j: Join) -> us
 pub fn join_all(
     sheet: &[u32; SHEET_SIZE],
     h: &[u32],
-    closeness: u32,
+    setting: u32,
     separators: &mut [u32],
     peaks: &mut [u32],
     n: usize,
 ) -> usize
     requires { ⌜ Small (now h) ⌝ }
-    requires { ⌜ (closeness ≤ mostCloseness) × (now sheet ≡ logSheet) ⌝ }
+    requires { ⌜ (setting ≤ lastSetting) × (now sheet ≡ logSheet) ⌝ }
     requires { ⌜ (n < length (now separators)) × (n ≤ length (now peaks)) ⌝ }
     requires { ⌜ Cut (length (now h)) (segmentsHeld (now separators) (now peaks) 0 n) ⌝ }
     ensures { λ r. ⌜ (segmentsHeld (now (separators .exit)) (now (peaks .exit)) 0 r
-        ≡ joinAll n closeness (lineReader (now (h .entry))) (segmentsHeld (now (separators .entry)) (now (peaks .entry)) 0 n))
+        ≡ joinAll n (closenessOf setting) (lineReader (now (h .entry))) (segmentsHeld (now (separators .entry)) (now (peaks .entry)) 0 n))
         × (r ≤ n) ⌝ }
 {
     let mut left = n;
     loop {
-        let next = next_join(sheet, h, closeness, separators, peaks, left);
+        let next = next_join(sheet, h, setting, separators, peaks, left);
         if !next.found {
             return left;
         }
@@ -71,16 +71,16 @@ pub fn join_all(
 }
 
 // Writes the modes of a line. Returns how many there are. A single segment has nothing to join, and needs no sheet.
-pub fn line(h: &[u32], closeness: u32, separators: &mut [u32], peaks: &mut [u32]) -> usize
+pub fn line(h: &[u32], setting: u32, separators: &mut [u32], peaks: &mut [u32]) -> usize
     requires { ⌜ Small (now h) ⌝ }
-    requires { ⌜ (2 ≤ length (now h)) × (closeness ≤ mostCloseness) ⌝ }
+    requires { ⌜ (2 ≤ length (now h)) × (setting ≤ lastSetting) ⌝ }
     requires { ⌜ (length (now h) ≤ length (now separators)) × (length (now h) ≤ length (now peaks)) ⌝ }
-    ensures { λ r. ⌜ segmentsHeld (now (separators .exit)) (now (peaks .exit)) 0 r ≡ lineModes closeness (now (h .entry)) ⌝ }
+    ensures { λ r. ⌜ segmentsHeld (now (separators .exit)) (now (peaks .exit)) 0 r ≡ lineModes (closenessOf setting) (now (h .entry)) ⌝ }
 {
     let n = first_segments(h, separators, peaks);
     if n < 2 {
         return n;
     }
     let sheet = copied_sheet();
-    join_all(&sheet, h, closeness, separators, peaks, n)
+    join_all(&sheet, h, setting, separators, peaks, n)
 }

@@ -7,7 +7,7 @@ ghost use mathlib.Core.Path.{_≡_};
 ghost use Prim.Native.Nat.{_≤_};
 ghost use lib.ListN.{length, take};
 ghost use Rattle.lists.specs.Lists.{total, over};
-ghost use Rattle.verdict.specs.Test.{mostCloseness};
+ghost use Rattle.verdict.specs.Settings.{lastSetting, closenessOf};
 ghost use Rattle.verdict.specs.Scratch.{Small};
 ghost use Rattle.segmentation.specs.Joining.{lineSeparators};
 ghost use Rattle.segmentation.specs.Ring.{ringSeparators};
@@ -25,25 +25,25 @@ fn copy_first(source: &[u32], n: usize, list: &mut [u32])
 }
 
 // Writes the separators of a line. Returns how many there are.
-pub fn line_separators(h: &[u32], closeness: u32, list: &mut [u32]) -> u32
+pub fn line_separators(h: &[u32], setting: u32, list: &mut [u32]) -> u32
     requires { ⌜ Small (now h) ⌝ }
-    requires { ⌜ (2 ≤ length (now h)) × (closeness ≤ mostCloseness) × (length (now h) ≤ length (now list)) ⌝ }
-    ensures { λ r. ⌜ (r ≡ length (lineSeparators closeness (now (h .entry))))
-        × (now (list .exit) ≡ over (lineSeparators closeness (now (h .entry))) (now (list .entry))) ⌝ }
+    requires { ⌜ (2 ≤ length (now h)) × (setting ≤ lastSetting) × (length (now h) ≤ length (now list)) ⌝ }
+    ensures { λ r. ⌜ (r ≡ length (lineSeparators (closenessOf setting) (now (h .entry))))
+        × (now (list .exit) ≡ over (lineSeparators (closenessOf setting) (now (h .entry))) (now (list .entry))) ⌝ }
 {
     let mut separators = [0u32; MOST_BINS];
     let mut peaks = [0u32; MOST_BINS];
-    let n = line(h, closeness, &mut separators, &mut peaks);
+    let n = line(h, setting, &mut separators, &mut peaks);
     copy_first(&separators, n + 1, list);
     (n + 1) as u32
 }
 
 // Writes the separators of a ring, from its opening on. Returns how many there are.
-pub fn ring_separators(h: &[u32], closeness: u32, list: &mut [u32]) -> u32
+pub fn ring_separators(h: &[u32], setting: u32, list: &mut [u32]) -> u32
     requires { ⌜ (2 ≤ length (now h)) × (length (now h) ≤ 256) × (total (now h) ≤ 65536) ⌝ }
-    requires { ⌜ (closeness ≤ mostCloseness) × (length (now h) ≤ length (now list)) ⌝ }
-    ensures { λ r. ⌜ (r ≡ length (ringSeparators closeness (now (h .entry))))
-        × (now (list .exit) ≡ over (ringSeparators closeness (now (h .entry))) (now (list .entry))) ⌝ }
+    requires { ⌜ (setting ≤ lastSetting) × (length (now h) ≤ length (now list)) ⌝ }
+    ensures { λ r. ⌜ (r ≡ length (ringSeparators (closenessOf setting) (now (h .entry))))
+        × (now (list .exit) ≡ over (ringSeparators (closenessOf setting) (now (h .entry))) (now (list .entry))) ⌝ }
 {
     let mut opened = [0u32; MOST_BINS];
     let mut separators = [0u32; MOST_BINS];
@@ -51,7 +51,7 @@ pub fn ring_separators(h: &[u32], closeness: u32, list: &mut [u32]) -> u32
     let bins = h.len();
     let opening = open_ring(h, &mut opened);
     let end = bins + 1;
-    let n = line(&opened[..end], closeness, &mut separators, &mut peaks);
+    let n = line(&opened[..end], setting, &mut separators, &mut peaks);
     ring_numbers(&separators, n, opening, bins, list);
     n as u32
 }

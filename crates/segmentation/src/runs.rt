@@ -12,7 +12,8 @@ ghost use lib.Signed.{ltZ, mag};
 ghost use Rattle.lists.specs.Lists.{part};
 ghost use Rattle.logarithm.specs.Sheet.{logSheet};
 ghost use Rattle.pooling.specs.Blocks.{direction};
-ghost use Rattle.verdict.specs.Test.{cost, mostCloseness};
+ghost use Rattle.verdict.specs.Test.{cost};
+ghost use Rattle.verdict.specs.Settings.{lastSetting, closenessOf};
 ghost use Rattle.verdict.specs.Scratch.{Small, Capped};
 ghost use Rattle.segmentation.specs.Joining.{lineReader, joinOf, cheapest, nextJoin};
 ghost use Rattle.segmentation.specs.Finished.{Cut};
@@ -50,23 +51,23 @@ fn stretch_cost(
     sheet: &[u32; SHEET_SIZE],
     h: &[u32],
     rising: bool,
-    closeness: u32,
+    setting: u32,
     i: usize,
     j: usize,
     cap: i64,
 ) -> i64
     requires { ⌜ Small (now h) ⌝ }
-    requires { ⌜ (i ≤ j) × (j < length (now h)) × (closeness ≤ mostCloseness) × (mag cap < 2 ^ 62) × (now sheet ≡ logSheet) ⌝ }
-    ensures { λ r. ⌜ Capped cap (cost closeness (direction rising) (part i j (now (h .entry)))) r ⌝ }
+    requires { ⌜ (i ≤ j) × (j < length (now h)) × (setting ≤ lastSetting) × (mag cap < 2 ^ 62) × (now sheet ≡ logSheet) ⌝ }
+    ensures { λ r. ⌜ Capped cap (cost (closenessOf setting) (direction rising) (part i j (now (h .entry)))) r ⌝ }
 {
-    capped_cost(sheet, &h[i..j + 1], rising, closeness, cap)
+    capped_cost(sheet, &h[i..j + 1], rising, setting, cap)
 }
 
 // The run of len segments from segment i on, where only a cost below `least` matters.
 fn run(
     sheet: &[u32; SHEET_SIZE],
     h: &[u32],
-    closeness: u32,
+    setting: u32,
     separators: &[u32],
     peaks: &[u32],
     n: usize,
@@ -74,17 +75,17 @@ fn run(
     len: usize,
     least: i64,
 ) -> Join
-    requires { ⌜ LineHeld (now sheet) closeness (now h) (now separators) (now peaks) n ⌝ }
+    requires { ⌜ LineHeld (now sheet) setting (now h) (now separators) (now peaks) n ⌝ }
     requires { ⌜ (1 ≤ len) × (i + len ≤ n) × (mag least < 2 ^ 62) ⌝ }
-    ensures { λ r. ⌜ RunBelow least (joinOf closeness (lineReader (now (h .entry))) (segmentsHeld (now (separators .entry)) (now (peaks .entry)) 0 n) i len) r ⌝ }
+    ensures { λ r. ⌜ RunBelow least (joinOf (closenessOf setting) (lineReader (now (h .entry))) (segmentsHeld (now (separators .entry)) (now (peaks .entry)) 0 n) i len) r ⌝ }
 {
     let first_peak = wide(peaks[i]);
     let end = wide(separators[i + len]);
     let start = wide(separators[i]);
     let last_peak = wide(peaks[i + len - 1]);
-    let fall = stretch_cost(sheet, h, false, closeness, first_peak, end, least);
+    let fall = stretch_cost(sheet, h, false, setting, first_peak, end, least);
     let cap = smaller(fall, least);
-    let rise = stretch_cost(sheet, h, true, closeness, start, last_peak, cap);
+    let rise = stretch_cost(sheet, h, true, setting, start, last_peak, cap);
     by_costs(i, len, rise, fall)
 }
 
@@ -120,15 +121,15 @@ fn better(best: Found, next: Join) -> Found
 fn cheapest_below(
     sheet: &[u32; SHEET_SIZE],
     h: &[u32],
-    closeness: u32,
+    setting: u32,
     separators: &[u32],
     peaks: &[u32],
     n: usize,
     len: usize,
 ) -> Found
-    requires { ⌜ LineHeld (now sheet) closeness (now h) (now separators) (now peaks) n ⌝ }
+    requires { ⌜ LineHeld (now sheet) setting (now h) (now separators) (now peaks) n ⌝ }
     requires { ⌜ (1 ≤ len) × (len ≤ n) ⌝ }
-    ensures { λ r. ⌜ joinFound (r .found) (r .join) ≡ whereBelow (cheapest closeness (lineReader (now (h .entry))) (segmentsHeld (now (separators .entry)) (now (peaks .entry)) 0 n) len) ⌝ }
+    ensures { λ r. ⌜ joinFound (r .found) (r .join) ≡ whereBelow (cheapest (closenessOf setting) (lineReader (now (h .entry))) (segmentsHeld (now (separators .entry)) (now (peaks .entry)) 0 n) len) ⌝ }
 {
     let mut best = nothing();
     let mut i = 0;
@@ -136,7 +137,7 @@ fn cheapest_below(
         let least = best.join.cost;
         best = better(
             best,
-            run(sheet, h, closeness, separators, peaks, n, i, len, least),
+            run(sheet, h, setting, separators, peaks, n, i, len, least),
         );
         i += 1;
     }
@@ -147,20 +148,20 @@ fn cheapest_below(
 pub fn next_join(
     sheet: &[u32; SHEET_SIZE],
     h: &[u32],
-    closeness: u32,
+    setting: u32,
     separators: &[u32],
     peaks: &[u32],
     n: usize,
 ) -> Found
     requires { ⌜ Small (now h) ⌝ }
-    requires { ⌜ (closeness ≤ mostCloseness) × (now sheet ≡ logSheet) ⌝ }
+    requires { ⌜ (setting ≤ lastSetting) × (now sheet ≡ logSheet) ⌝ }
     requires { ⌜ (n < length (now separators)) × (n ≤ length (now peaks)) ⌝ }
     requires { ⌜ Cut (length (now h)) (segmentsHeld (now separators) (now peaks) 0 n) ⌝ }
-    ensures { λ r. ⌜ joinFound (r .found) (r .join) ≡ nextJoin closeness (lineReader (now (h .entry))) (segmentsHeld (now (separators .entry)) (now (peaks .entry)) 0 n) ⌝ }
+    ensures { λ r. ⌜ joinFound (r .found) (r .join) ≡ nextJoin (closenessOf setting) (lineReader (now (h .entry))) (segmentsHeld (now (separators .entry)) (now (peaks .entry)) 0 n) ⌝ }
 {
     let mut len = 2;
     while len <= n {
-        let best = cheapest_below(sheet, h, closeness, separators, peaks, n, len);
+        let best = cheapest_below(sheet, h, setting, separators, peaks, n, len);
         if best.found {
             return best;
         }

@@ -8,6 +8,7 @@ use lib.ListN.{length, take, drop}
 use lib.Seq.{length-take-le}
 use Rattle.palette.specs.Cards.{pixelsOf}
 use Rattle.palette.specs.Sound.{mostPixels}
+use Rattle.verdict.specs.Settings.{closenessOf}
 use Rattle.dividing.proofs.Walking.{putFrom}
 use Rattle.dividing.proofs.Halves.{KindsLaid, kinds-laid, greys-long, greys-room, order-long, other-long, colours-lent, colours-long, colours-room}
 use Rattle.dividing.proofs.Halves.{other-end, order-end, source-long, both-long, both-divided, some-few}
@@ -101,7 +102,7 @@ split-some-requires c κs =
     let long = greys-long (bytes k) (order k) (other k) (greys k) (all k) l in
     record {
       left = omega arith;
-      closeness = p .4;
+      setting = p .4;
       room = omega arith;
       codes = omega arith;
       lists = greys-room (bytes k) (order k) (other k) (greys k) (all k) l;
@@ -138,10 +139,10 @@ split-some-requires-2 c κs =
     let long = colours-long (bytes k) (order k) (other k) (greys k) (all k) l (u f) (v f) lu lv in
     let room = colours-room (bytes k) (order k) (other k) (greys k) (all k) l (u f) (v f) lu lv in
     let lent = colours-lent (bytes k) (order k) (other k) (greys k) (all k) l (u f) (v f) lu lv in
-    let few = some-few (entry k .args .closeness) (pixelsOf (bytes k)) 1 0 (take (greys k) (order k)) in
+    let few = some-few (closenessOf (entry k .args .setting)) (pixelsOf (bytes k)) 1 0 (take (greys k) (order k)) in
     record {
       left = omega arith;
-      closeness = p .4;
+      setting = p .4;
       room = omega (arith, few, f .split-some .ensures .count);
       codes = omega arith;
       lists = room;
@@ -205,7 +206,7 @@ returns c =
     let a = entry k .args in
     both-divided (bytes k) (order k) (other k) (greys k) (all k) (laid k) (u f) (v f) (f .split-some .kept .1 .1 .0) (f .split-some .kept .1 .1 .1 .0)
     (w s) (x s) (s .split-some2 .kept .1 .1 .0) (s .split-some2 .kept .1 .1 .1 .0) (c .before .before .copy .last .1 .0) (c .before .before .copy .ensures)
-    (a .closeness) (λ j. let known = k .before .before .before .before .before .before .before .before .shared-slice-known .given j in omega arith)
+    (closenessOf (a .setting)) (λ j. let known = k .before .before .before .before .before .before .before .before .shared-slice-known .given j in omega arith)
     (a .codes .now) (f .split-some .last .1 .1 .1 .1 .1 .0) (s .split-some2 .last .1 .1 .1 .1 .1 .0) (a .sizes .now) (f .split-some .last .1 .1 .1 .1 .1 .1 .0)
     (s .split-some2 .last .1 .1 .1 .1 .1 .1 .0) (f .split-some .result) (s .split-some2 .result) (f .split-some .ensures) (s .split-some2 .ensures)
 

@@ -11,6 +11,7 @@ use Rattle.segmentation.specs.Ring.{opened, ringModes}
 use Rattle.segmentation.proofs.RingPlaces.{ring-length, ring-small, opening-in}
 use Rattle.palette.specs.Sound.{mostPixels}
 use Rattle.palette.specs.Levels.{hue, binCount}
+use Rattle.verdict.specs.Settings.{closenessOf}
 use Rattle.dividing.proofs.Numbered.{Lent, starts-lent, ring-numbered}
 use borrow.Author.Needs.{needs}
 use Rattle.dividing.proofs.modes.hue_modes.Statement.{statement}
@@ -39,9 +40,9 @@ line s = s .before .before .before .before
 abbrev entry : tie.After-line-separators → tie.Start
 entry s = line s .before .before .before .before
 
-lent : (s : tie.After-line-separators) → Lent (entry s .args .closeness) (opened (ring (line s))) (two (line s)) (s .line-separators .last .1 .1 .0) (s .line-separators .result)
+lent : (s : tie.After-line-separators) → Lent (closenessOf (entry s .args .setting)) (opened (ring (line s))) (two (line s)) (s .line-separators .last .1 .1 .0) (s .line-separators .result)
 lent s =
-    let e = entry s .args .closeness in
+    let e = closenessOf (entry s .args .setting) in
     let same = opened-is (line s) in
     starts-lent e (opened (ring (line s))) (two (line s)) (replicate (suc (binCount hue)) 0) _ _ (s .line-separators .ensures .0 ∙ ap (λ (z : List ℕ). length (lineSeparators e z)) same)
     (s .line-separators .ensures .1 ∙ ap (λ (z : List ℕ). over (lineSeparators e z) (replicate (suc (binCount hue)) 0)) same)
@@ -81,7 +82,7 @@ returns c =
     let o = line s in
     let long = bins o in
     let same : length (q .last .1 .1 .0) ≡ length (ring o) = omega (arith, q .kept .1 .1 .0) in
-    rw (lent s .count) (ring-numbered (entry s .args .closeness) (ring o) (omega arith) _ (o .open-ring .ensures .0) (q .last .1 .1 .0) same (rw (lent s .starts) at (q .ensures)))
+    rw (lent s .count) (ring-numbered (closenessOf (entry s .args .setting)) (ring o) (omega arith) _ (o .open-ring .ensures .0) (q .last .1 .1 .0) same (rw (lent s .starts) at (q .ensures)))
 
 pub hue-modes-spec : {M : Type 1} → statement M
 hue-modes-spec =

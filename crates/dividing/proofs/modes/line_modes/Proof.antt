@@ -3,6 +3,7 @@ use mathlib.Core.Path.{_≡_, sym, _∙_}
 use native.Mathlib.Omega.{arith}
 use lib.ListN.{length}
 use Rattle.palette.specs.Sound.{mostPixels}
+use Rattle.verdict.specs.Settings.{closenessOf}
 use Rattle.dividing.proofs.Numbered.{Lent, starts-lent, line-numbered}
 use borrow.Author.Needs.{needs}
 use Rattle.dividing.proofs.modes.line_modes.Statement.{statement}
@@ -11,8 +12,8 @@ use Rattle.dividing.proofs.modes.line_modes.Tie as tie
 abbrev entry : tie.After-line-separators → tie.Start
 entry s = s .before .before .before .before
 
-lent : (s : tie.After-line-separators) → Lent (entry s .args .closeness) (entry s .args .h .now) (entry s .pre .0) (s .line-separators .last .1 .1 .0) (s .line-separators .result)
-lent s = starts-lent (entry s .args .closeness) (entry s .args .h .now) (entry s .pre .0) _ _ _ (s .line-separators .ensures .0) (s .line-separators .ensures .1)
+lent : (s : tie.After-line-separators) → Lent (closenessOf (entry s .args .setting)) (entry s .args .h .now) (entry s .pre .0) (s .line-separators .last .1 .1 .0) (s .line-separators .result)
+lent s = starts-lent (closenessOf (entry s .args .setting)) (entry s .args .h .now) (entry s .pre .0) _ _ _ (s .line-separators .ensures .0) (s .line-separators .ensures .1)
 
 line-separators-requires : tie.Need-line-separators-requires
 unfolding mostPixels
@@ -44,7 +45,7 @@ returns c =
     let q = c .before .before .number-bins in
     let a = entry s .args in
     let same : length (q .last .1 .1 .0) ≡ length (a .h .now) = q .kept .1 .1 .0 ∙ entry s .pre .4 in
-    rw (lent s .count) (line-numbered (a .closeness) (a .h .now) (entry s .pre .0) (q .last .1 .1 .0) same (rw (lent s .starts) at (q .ensures)))
+    rw (lent s .count) (line-numbered (closenessOf (a .setting)) (a .h .now) (entry s .pre .0) (q .last .1 .1 .0) same (rw (lent s .starts) at (q .ensures)))
 
 pub line-modes-spec : {M : Type 1} → statement M
 line-modes-spec =

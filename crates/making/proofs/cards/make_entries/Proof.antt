@@ -8,6 +8,7 @@ use lib.Seq.{length-take-le}
 use Rattle.palette.specs.Cards.{pixelsOf}
 use Rattle.palette.specs.Sound.{mostPixels}
 use Rattle.palette.proofs.Triples.{pixels-length}
+use Rattle.verdict.specs.Settings.{closenessOf}
 use Rattle.making.proofs.Laid.{held-few}
 use Rattle.making.proofs.Divided.{FiguresLeft, divided-left, divided-few, figures-laid, card-made}
 use borrow.Author.Needs.{needs}
@@ -58,7 +59,7 @@ divide-pixels-requires c κs =
     (p .0 .0 ∙ ap (λ (k : ℕ). 3 * k) (sym x), x ∙ sym y, z ∙ sym x, omega (arith, x, p .0 .0, p .0 .1), p .0 .2)
 
 -- how the division leaves the lists
-left : (m : tie.After-divide-pixels) → FiguresLeft (entry m .args .closeness) (pixelsOf (entry m .args .pixels .now)) (numbers m ++ rest m) (codes m) (sizes m) (m .divide-pixels .result)
+left : (m : tie.After-divide-pixels) → FiguresLeft (closenessOf (entry m .args .setting)) (pixelsOf (entry m .args .pixels .now)) (numbers m ++ rest m) (codes m) (sizes m) (m .divide-pixels .result)
 left m =
     let p = entry m .pre in
     divided-left _ _ _ _ _ _ _ (rest m) _ (m .divide-pixels .ensures) (p .1 .3) (p .1 .4) (long m ∙ sym (pixels-length (entry m .args .pixels .now) (many (entry m)) (p .0 .0)))

@@ -10,6 +10,7 @@ use Rattle.segmentation.specs.Segments.{Segment}
 use Rattle.segmentation.specs.Joining.{Reader, lineReader, nextJoin, joinAll}
 use Rattle.segmentation.specs.Held.{segmentsHeld}
 use Rattle.segmentation.specs.Finished.{Cut}
+use Rattle.verdict.specs.Settings.{closenessOf}
 use Rattle.segmentation.proofs.Holding.{held-length}
 use Rattle.segmentation.proofs.Kept.{join-cut}
 use Rattle.segmentation.proofs.Applied.{found-some, found-none, joins-none, joins-step}
@@ -18,19 +19,19 @@ use Rattle.segmentation.proofs.joins.join_all.Statement.{statement}
 use Rattle.segmentation.proofs.joins.join_all.Tie as tie
 
 abbrev Inv-loop : tie.InvT-loop
-Inv-loop sheet h closeness separators₀ peaks₀ n left₀ separators peaks left =
+Inv-loop sheet h setting separators₀ peaks₀ n left₀ separators peaks left =
     (left ≤ n)
     × (length separators ≡ length separators₀)
     × (length peaks ≡ length peaks₀)
     × Cut (length h) (segmentsHeld separators peaks 0 left)
-    × (joinAll left closeness (lineReader h) (segmentsHeld separators peaks 0 left) ≡ joinAll n closeness (lineReader h) (segmentsHeld separators₀ peaks₀ 0 n))
+    × (joinAll left (closenessOf setting) (lineReader h) (segmentsHeld separators peaks 0 left) ≡ joinAll n (closenessOf setting) (lineReader h) (segmentsHeld separators₀ peaks₀ 0 n))
 
 abbrev μ-loop : tie.MeasureT-loop
-μ-loop sheet h closeness separators₀ peaks₀ n left₀ separators peaks left = left
+μ-loop sheet h setting separators₀ peaks₀ n left₀ separators peaks left = left
 
 -- the join that was found comes next, and is a run of the segments held
 found : (c : tie.Else1 Inv-loop μ-loop)
-    → nextJoin (c .before .before .before .before .before .before .before .before .before .args .closeness)
+    → nextJoin (closenessOf (c .before .before .before .before .before .before .before .before .before .args .setting))
     (lineReader (c .before .before .before .before .before .before .before .before .before .args .h .now))
     (segmentsHeld (c .before .before .before .before .before .loop .separators) (c .before .before .before .before .before .loop .peaks) 0 (c .before .before .before .before .before .loop .left))
     ≡ some (c .before .before .next-join .result .join)
@@ -45,7 +46,7 @@ valid c =
     let a = c .before .before .before .before .before .before .before .before .before .args in
     let v = c .before .before .before .before .before .loop in
     let j = c .before .before .next-join .result .join in
-    let r = next-run (a .closeness) (lineReader (a .h .now)) (segmentsHeld (v .separators) (v .peaks) 0 (v .left)) j (found c) in
+    let r = next-run (closenessOf (a .setting)) (lineReader (a .h .now)) (segmentsHeld (v .separators) (v .peaks) 0 (v .left)) j (found c) in
     (r .two, rw (held-length (v .separators) (v .peaks) 0 (v .left)) at (r .within))
 
 loop-holds : tie.Need-loop-holds Inv-loop μ-loop
@@ -69,7 +70,7 @@ returns c =
     let r = c .before .before .next-join in
     let ss : List Segment = segmentsHeld (v .separators) (v .peaks) 0 (v .left) in
     let read : Reader = lineReader (a .h .now) in
-    (sym (joins-none (a .closeness) read (v .left) ss (found-none (r .result .found) (r .result .join) (nextJoin (a .closeness) read ss) (r .ensures) (c .if1 .taken))) ∙ v .inv .4, v .inv .0)
+    (sym (joins-none (closenessOf (a .setting)) read (v .left) ss (found-none (r .result .found) (r .result .join) (nextJoin (closenessOf (a .setting)) read ss) (r .ensures) (c .if1 .taken))) ∙ v .inv .4, v .inv .0)
 
 apply-requires : tie.Need-apply-requires Inv-loop μ-loop
 apply-requires c κs =
@@ -91,8 +92,8 @@ loop-again c =
       omega arith,
       f .kept .0 ∙ v .inv .1,
       f .kept .1 .0 ∙ v .inv .2,
-      subst (Cut (length (a .h .now))) (sym (f .ensures .0)) (join-cut (length (a .h .now)) ss j (v .inv .3) (next-run (a .closeness) (lineReader (a .h .now)) ss j (found here))),
-      joins-step (a .closeness) (lineReader (a .h .now)) (v .separators) (v .peaks) (f .last .0) (f .last .1 .0) (v .left) (f .result) j (found here) (f .ensures .0) ∙ v .inv .4,
+      subst (Cut (length (a .h .now))) (sym (f .ensures .0)) (join-cut (length (a .h .now)) ss j (v .inv .3) (next-run (closenessOf (a .setting)) (lineReader (a .h .now)) ss j (found here))),
+      joins-step (closenessOf (a .setting)) (lineReader (a .h .now)) (v .separators) (v .peaks) (f .last .0) (f .last .1 .0) (v .left) (f .result) j (found here) (f .ensures .0) ∙ v .inv .4,
     )
 
 pub join-all-spec : {M : Type 1} → statement M

@@ -7,6 +7,7 @@ use lib.ListN.{length}
 use Rattle.segmentation.specs.Joining.{lineReader, joinAll, lineModes}
 use Rattle.segmentation.specs.Held.{segmentsHeld}
 use Rattle.segmentation.specs.Finished.{Cut}
+use Rattle.verdict.specs.Settings.{closenessOf}
 use Rattle.segmentation.proofs.FirstCut.{first-cut}
 use Rattle.segmentation.proofs.Holding.{held-length}
 use Rattle.segmentation.proofs.Applied.{line-held, cut-count, one-joins-none, joins-none}
@@ -26,12 +27,12 @@ entry c = c .before .before .before .before .before .before
 -- joining the first segments gives the modes
 modes-are : (c : tie.After-first-segments) →
     let f = c .first-segments in
-    joinAll (f .result) (entry c .args .closeness) (lineReader (entry c .args .h .now)) (segmentsHeld (f .last .1 .0) (f .last .1 .1 .0) 0 (f .result))
-    ≡ lineModes (entry c .args .closeness) (entry c .args .h .now)
+    joinAll (f .result) (closenessOf (entry c .args .setting)) (lineReader (entry c .args .h .now)) (segmentsHeld (f .last .1 .0) (f .last .1 .1 .0) 0 (f .result))
+    ≡ lineModes (closenessOf (entry c .args .setting)) (entry c .args .h .now)
 modes-are c =
     let a = entry c .args in
     let f = c .first-segments in
-    line-held (a .closeness) (a .h .now) (f .last .1 .0) (f .last .1 .1 .0) (f .result) (f .ensures)
+    line-held (closenessOf (a .setting)) (a .h .now) (f .last .1 .0) (f .last .1 .1 .0) (f .result) (f .ensures)
 
 same-length : tie.Need-same-length
 same-length c = search needs
@@ -46,7 +47,7 @@ returns c =
     let ss = segmentsHeld (f .last .1 .0) (f .last .1 .1 .0) 0 (f .result) in
     let read = lineReader (entry at .args .h .now) in
     let few : length ss ≤ 1 = omega (arith, held-length (f .last .1 .0) (f .last .1 .1 .0) 0 (f .result)) in
-    sym (joins-none (entry at .args .closeness) read (f .result) ss (one-joins-none (entry at .args .closeness) read ss few)) ∙ modes-are at
+    sym (joins-none (closenessOf (entry at .args .setting)) read (f .result) ss (one-joins-none (closenessOf (entry at .args .setting)) read ss few)) ∙ modes-are at
 
 copied-sheet-requires : tie.Need-copied-sheet-requires
 copied-sheet-requires c κs = search needs

@@ -5,6 +5,7 @@ use Prim.Native.Nat.{ℕ, _<_}
 use native.Mathlib.Omega.{arith}
 use lib.ListN.{length}
 use Rattle.lists.specs.Lists.{over}
+use Rattle.verdict.specs.Settings.{closenessOf}
 use Rattle.segmentation.proofs.Listed.{listed-count, line-listed, line-listed-length}
 use borrow.Author.Needs.{needs}
 use Rattle.segmentation.proofs.listing.line_separators.Statement.{statement}
@@ -26,7 +27,7 @@ slice-aggregate-copy-first c = search needs
 fewer : (c : tie.After-line) → c .line .result < length (c .before .before .before .before .before .args .h .now)
 fewer c =
     let s = c .before .before .before .before .before in
-    listed-count (s .args .closeness) (s .args .h .now) _ _ (c .line .result) (s .pre .1 .0) (c .line .ensures)
+    listed-count (closenessOf (s .args .setting)) (s .args .h .now) _ _ (c .line .result) (s .pre .1 .0) (c .line .ensures)
 
 add-copy-first : tie.Need-add-copy-first
 add-copy-first c = let l = c .before .before .before in omega (arith, fewer l, l .before .before .before .before .before .pre .0)
@@ -47,9 +48,9 @@ returns : tie.Need-returns
 returns c =
     let l = c .before .before .before .before .before .before .before in
     let s = l .before .before .before .before .before in (
-      line-listed-length (s .args .closeness) (s .args .h .now) _ _ (l .line .result) (s .pre .1 .0) (l .line .ensures),
+      line-listed-length (closenessOf (s .args .setting)) (s .args .h .now) _ _ (l .line .result) (s .pre .1 .0) (l .line .ensures),
       c .before .before .copy-first .ensures
-          ∙ ap (λ (xs : List ℕ). over xs (s .args .list .now)) (line-listed (s .args .closeness) (s .args .h .now) _ _ (l .line .result) (s .pre .1 .0) (l .line .ensures) (omega (arith, fewer l, l .line .kept, s .pre .0))),
+          ∙ ap (λ (xs : List ℕ). over xs (s .args .list .now)) (line-listed (closenessOf (s .args .setting)) (s .args .h .now) _ _ (l .line .result) (s .pre .1 .0) (l .line .ensures) (omega (arith, fewer l, l .line .kept, s .pre .0))),
     )
 
 pub line-separators-spec : {M : Type 1} → statement M

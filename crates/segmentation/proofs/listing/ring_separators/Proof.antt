@@ -9,6 +9,7 @@ use Rattle.lists.proofs.Buffers.{over-front}
 use Rattle.segmentation.specs.Joining.{lineModes}
 use Rattle.segmentation.specs.Held.{segmentsHeld}
 use Rattle.segmentation.specs.Ring.{opened}
+use Rattle.verdict.specs.Settings.{closenessOf}
 use Rattle.segmentation.proofs.RingPlaces.{ring-length, ring-small, opening-in}
 use Rattle.segmentation.proofs.Listed.{ring-listed-count, ring-listed-length, ring-numbers-listed}
 use borrow.Author.Needs.{needs}
@@ -53,11 +54,11 @@ line-requires c κs =
 
 -- the segments held are the modes of the opened line
 held : (c : tie.After-line)
-    → segmentsHeld (c .line .last .1 .1 .0) (c .line .last .1 .1 .1 .0) 0 (c .line .result) ≡ lineModes (c .before .before .before .before .before .before .before .before .before .args .closeness) (opened (c .before .before .before .before .before .before .before .before .before .args .h .now))
+    → segmentsHeld (c .line .last .1 .1 .0) (c .line .last .1 .1 .1 .0) 0 (c .line .result) ≡ lineModes (closenessOf (c .before .before .before .before .before .before .before .before .before .args .setting)) (opened (c .before .before .before .before .before .before .before .before .before .args .h .now))
 held c = rw (line-is (c .before .before .before .before .before)) at (c .line .ensures)
 
 fewer : (c : tie.After-line) → c .line .result ≤ length (c .before .before .before .before .before .before .before .before .before .args .h .now)
-fewer c = let s = c .before .before .before .before .before .before .before .before .before in ring-listed-count (s .args .closeness) (s .args .h .now) _ _ (c .line .result) (s .pre .0 .0) (held c)
+fewer c = let s = c .before .before .before .before .before .before .before .before .before in ring-listed-count (closenessOf (s .args .setting)) (s .args .h .now) _ _ (c .line .result) (s .pre .0 .0) (held c)
 
 slice-aggregate-ring-numbers : tie.Need-slice-aggregate-ring-numbers
 slice-aggregate-ring-numbers c = search needs
@@ -80,11 +81,11 @@ returns c =
     let l = c .before .before .before .before .before .before .before in
     let s = l .before .before .before .before .before .before .before .before .before in
     let n = c .before .before .ring-numbers in (
-      ring-listed-length (s .args .closeness) (s .args .h .now) _ _ (l .line .result) (s .pre .0 .0) (held l),
+      ring-listed-length (closenessOf (s .args .setting)) (s .args .h .now) _ _ (l .line .result) (s .pre .0 .0) (held l),
       n .ensures
           ∙ ap (λ (xs : List ℕ). over xs (s .args .list .now))
           (ap (λ (k : ℕ). map (λ (x : ℕ). (k + x) % length (s .args .h .now)) (take (l .line .result) (l .line .last .1 .1 .0))) (l .before .before .before .before .before .open-ring .ensures .0)
-          ∙ ring-numbers-listed (s .args .closeness) (s .args .h .now) _ _ (l .line .result) (s .pre .0 .0) (held l) (omega (arith, fewer l, l .line .kept, s .pre .0))),
+          ∙ ring-numbers-listed (closenessOf (s .args .setting)) (s .args .h .now) _ _ (l .line .result) (s .pre .0 .0) (held l) (omega (arith, fewer l, l .line .kept, s .pre .0))),
     )
 
 pub ring-separators-spec : {M : Type 1} → statement M

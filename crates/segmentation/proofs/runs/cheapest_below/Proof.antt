@@ -9,19 +9,21 @@ use borrow.Author.Needs.{needs}
 use Rattle.verdict.proofs.Machine.{handed-back}
 use Rattle.segmentation.specs.Joining.{Join, lineReader, joinOf}
 use Rattle.segmentation.specs.Held.{segmentsHeld}
+use Rattle.verdict.specs.Test.{Closeness}
+use Rattle.verdict.specs.Settings.{closenessOf}
 use Rattle.segmentation.proofs.Searching.{Searched, searched-none, searched-more, searched-all, soFar}
 use Rattle.segmentation.proofs.runs.cheapest_below.Statement.{statement}
 use Rattle.segmentation.proofs.runs.cheapest_below.Tie as tie
 
 -- the runs of len segments
-abbrev runs : (h : List ℕ) (closeness : ℕ) (separators peaks : List ℕ) (n len : ℕ) → ℕ → Join
-runs h closeness separators peaks n len k = joinOf closeness (lineReader h) (segmentsHeld separators peaks 0 n) k len
+abbrev runs : (h : List ℕ) (e : Closeness) (separators peaks : List ℕ) (n len : ℕ) → ℕ → Join
+runs h e separators peaks n len k = joinOf e (lineReader h) (segmentsHeld separators peaks 0 n) k len
 
 abbrev Inv-loop : tie.InvT-loop
-Inv-loop sheet h closeness separators peaks n len best₀ i₀ best i = (i + len ≤ n + 1) × Searched (runs h closeness separators peaks n len) i best
+Inv-loop sheet h setting separators peaks n len best₀ i₀ best i = (i + len ≤ n + 1) × Searched (runs h (closenessOf setting) separators peaks n len) i best
 
 abbrev μ-loop : tie.MeasureT-loop
-μ-loop sheet h closeness separators peaks n len best₀ i₀ best i = n + 1 - i
+μ-loop sheet h setting separators peaks n len best₀ i₀ best i = n + 1 - i
 
 nothing-requires : tie.Need-nothing-requires Inv-loop μ-loop
 nothing-requires c κs = search needs
@@ -62,8 +64,8 @@ returns c =
     let a = c .before in
     let s = a .before .before .before .before .before in
     let q : a .loop .i ≡ suc (s .args .n - s .args .len) = omega arith in
-    a .loop .inv .1 .same ∙ ap (soFar (runs (s .args .h .now) (s .args .closeness) (s .args .separators .now) (s .args .peaks .now) (s .args .n) (s .args .len))) q
-    ∙ searched-all (s .args .closeness) (lineReader (s .args .h .now)) (s .args .separators .now) (s .args .peaks .now) (s .args .n) (s .args .len)
+    a .loop .inv .1 .same ∙ ap (soFar (runs (s .args .h .now) (closenessOf (s .args .setting)) (s .args .separators .now) (s .args .peaks .now) (s .args .n) (s .args .len))) q
+    ∙ searched-all (closenessOf (s .args .setting)) (lineReader (s .args .h .now)) (s .args .separators .now) (s .args .peaks .now) (s .args .n) (s .args .len)
 
 pub cheapest-below-spec : {M : Type 1} → statement M
 cheapest-below-spec =

@@ -8,18 +8,19 @@ use borrow.Author.Needs.{needs}
 use Rattle.segmentation.specs.Segments.{Segment}
 use Rattle.segmentation.specs.Joining.{lineReader, nextJoin}
 use Rattle.segmentation.specs.Held.{segmentsHeld}
+use Rattle.verdict.specs.Settings.{closenessOf}
 use Rattle.segmentation.proofs.Holding.{held-length}
 use Rattle.segmentation.proofs.Searching.{fromLength, from-two, length-found, length-passed, no-length}
 use Rattle.segmentation.proofs.runs.next_join.Statement.{statement}
 use Rattle.segmentation.proofs.runs.next_join.Tie as tie
 
 abbrev Inv-loop : tie.InvT-loop
-Inv-loop sheet h closeness separators peaks n len₀ len =
+Inv-loop sheet h setting separators peaks n len₀ len =
     let ss = segmentsHeld separators peaks 0 n in
-    (2 ≤ len) × (len ≤ n + 1) × (nextJoin closeness (lineReader h) ss ≡ fromLength closeness (lineReader h) ss len)
+    (2 ≤ len) × (len ≤ n + 1) × (nextJoin (closenessOf setting) (lineReader h) ss ≡ fromLength (closenessOf setting) (lineReader h) ss len)
 
 abbrev μ-loop : tie.MeasureT-loop
-μ-loop sheet h closeness separators peaks n len₀ len = n + 1 - len
+μ-loop sheet h setting separators peaks n len₀ len = n + 1 - len
 
 -- the segments, and how many
 abbrev segments : tie.Start Inv-loop μ-loop → List Segment
@@ -31,7 +32,7 @@ count s = held-length (s .args .separators .now) (s .args .peaks .now) 0 (s .arg
 loop-holds : tie.Need-loop-holds Inv-loop μ-loop
 loop-holds c =
     let s = c .before .before .before in
-    (omega arith, omega (arith, s .pre .1 .1 .1 .nonEmpty, count s), from-two (s .args .closeness) (lineReader (s .args .h .now)) (segments s))
+    (omega arith, omega (arith, s .pre .1 .1 .1 .nonEmpty, count s), from-two (closenessOf (s .args .setting)) (lineReader (s .args .h .now)) (segments s))
 
 cheapest-below-requires : tie.Need-cheapest-below-requires Inv-loop μ-loop
 cheapest-below-requires c κs =
@@ -43,7 +44,7 @@ returns c =
     let b = c .before .cheapest-below in
     let a = c .before .before .before in
     let s = a .before .before .before .before in
-    length-found (s .args .closeness) (lineReader (s .args .h .now)) (segments s) (a .loop .len) (b .result) (omega (arith, count s)) (b .ensures) (c .if1 .taken) ∙ sym (a .loop .inv .2)
+    length-found (closenessOf (s .args .setting)) (lineReader (s .args .h .now)) (segments s) (a .loop .len) (b .result) (omega (arith, count s)) (b .ensures) (c .if1 .taken) ∙ sym (a .loop .inv .2)
 
 add-len : tie.Need-add-len Inv-loop μ-loop
 add-len c = search needs
@@ -58,7 +59,7 @@ loop-again c =
     let s = a .before .before .before .before in (
       omega arith,
       omega arith,
-      a .loop .inv .2 ∙ length-passed (s .args .closeness) (lineReader (s .args .h .now)) (segments s) (a .loop .len) (b .result) (omega (arith, count s)) (b .ensures) (c .if1 .left),
+      a .loop .inv .2 ∙ length-passed (closenessOf (s .args .setting)) (lineReader (s .args .h .now)) (segments s) (a .loop .len) (b .result) (omega (arith, count s)) (b .ensures) (c .if1 .left),
     )
 
 nothing-requires : tie.Need-nothing-requires Inv-loop μ-loop
@@ -68,7 +69,7 @@ returns-2 : tie.Need-returns-2 Inv-loop μ-loop
 returns-2 c =
     let a = c .before .before in
     let s = a .before .before .before .before in
-    rw (c .nothing .ensures .0) (sym (a .loop .inv .2 ∙ no-length (s .args .closeness) (lineReader (s .args .h .now)) (segments s) (a .loop .len) (omega (arith, count s))))
+    rw (c .nothing .ensures .0) (sym (a .loop .inv .2 ∙ no-length (closenessOf (s .args .setting)) (lineReader (s .args .h .now)) (segments s) (a .loop .len) (omega (arith, count s))))
 
 pub next-join-spec : {M : Type 1} → statement M
 next-join-spec = tie.close (tie.spec Inv-loop μ-loop loop-holds cheapest-below-requires returns add-len loop-less loop-again nothing-requires returns-2)

@@ -10,6 +10,7 @@ use mir.ValLaws.{toZ-ofZ}
 use borrow.Author.Needs.{needs}
 use Rattle.lists.proofs.Cases.{by-cond}
 use Rattle.verdict.proofs.Machine.{handed-back}
+use Rattle.verdict.specs.Settings.{closenessOf}
 use Rattle.segmentation.proofs.Searching.{fall-inside, rise-inside, run-is, choice}
 use Rattle.segmentation.proofs.runs.run.Statement.{statement}
 use Rattle.segmentation.proofs.runs.run.Tie as tie
@@ -103,7 +104,7 @@ returns c =
     let cf = rw (w .before .before .before .before .before .before .wide .ensures, w .before .before .before .before .wide2 .ensures, least-is w) at (fall .ensures) in
     let cr = rw (w .before .before .wide3 .ensures, w .wide4 .ensures, handed-back (c .before .before .smaller .ok), c .before .before .smaller .ensures, handed-back (fall .ok), least-is w) at (rise .ensures) in
     rw (
-      run-is (s .args .closeness) (s .args .h .now) (s .args .separators .now) (s .args .peaks .now) (s .args .n) (s .args .i) (s .args .len) (s .pre .1 .0) (s .pre .1 .1),
+      run-is (closenessOf (s .args .setting)) (s .args .h .now) (s .args .separators .now) (s .args .peaks .now) (s .args .n) (s .args .i) (s .args .len) (s .pre .1 .0) (s .pre .1 .1),
       c .by-costs .ensures,
       handed-back (rise .ok),
       handed-back (fall .ok),
