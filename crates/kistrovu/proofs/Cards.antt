@@ -12,7 +12,8 @@ use borrow.Author.Tests.{ltb-false, eqb-true, ne-eqb, lt-ltb, le-ltb, lt-leb, le
 use Rattle.lists.proofs.Connectives.{both-false}
 use Rattle.lists.specs.Lists.{padded}
 use Rattle.pixel.specs.declared.Pixel.{Pixel}
-use Rattle.verdict.specs.Test.{Closeness, mostCloseness}
+use Rattle.verdict.specs.Test.{Closeness}
+use Rattle.verdict.specs.Settings.{Offered}
 use Rattle.palette.specs.declared.Entry.{Entry}
 use Rattle.palette.specs.Cards.{pixelsOf, entries, labels, mostEntries, noEntry}
 use Rattle.palette.specs.Sound.{mostPixels, entryAt, SoundCard}
@@ -23,7 +24,7 @@ use Rattle.kistrovu.specs.declared.Card.{Card}
 use Rattle.kistrovu.specs.Grounds.{firstGround, badBytes, manyPixels, badCloseness, badLabels, manyEntries, askedNumber, cardNumber}
 use Rattle.kistrovu.specs.Answers.{servedEntries, cardAnswer, labelList}
 use Rattle.kistrovu.specs.Facts.{SoundAnswer, CardAgain}
-use Rattle.kistrovu.proofs.Served.{ground-none, grounds-served, grounds-turned-down}
+use Rattle.kistrovu.proofs.Served.{closeness-offered, ground-none, grounds-served, grounds-turned-down}
 
 abbrev pub made : ℕ → ℕ → List Entry → Card
 made n len es = record { number = n; len = len; entries = es }
@@ -32,7 +33,7 @@ made n len es = record { number = n; len = len; entries = es }
 pub record Asked (e : Closeness) (bytes : List ℕ) (places : ℕ) : Type 0 where
   pub threes : length bytes ≡ 3 * places
   pub few : places ≤ mostPixels
-  pub close : e ≤ mostCloseness
+  pub close : Offered e
 
 unlike : (b : Bool) → not b ≡ false → b ≡ true
 unlike true q = refl
@@ -61,7 +62,7 @@ module _ (e : Closeness) (bytes : List ℕ) (places : ℕ) where
       record {
         threes = omega (arith, div-add-mod (length bytes) 3, rest, same);
         few = omega (arith, same, ltb-false mostPixels (length bytes / 3) (b .0));
-        close = ltb-false mostCloseness e (c .0);
+        close = closeness-offered e (c .0);
       }
 
 -- ---- the answer and the labels, by the number
@@ -131,10 +132,10 @@ pub take-padded : (n : ℕ) (es : List Entry) → take (length es) (padded n noE
 unfolding padded
 take-padded n es = take-append-seam es _
 
--- demand D3 of the card handed back
-pub handed-sound : (e : Closeness) (bytes : List ℕ) → SoundCard e (pixelsOf bytes)
+-- demand D3 of the card handed back, as it is made, and by what the call knows of it
+as-made : (e : Closeness) (bytes : List ℕ) → SoundCard e (pixelsOf bytes)
     → SoundAnswer e bytes (made 0 (length (entries e (pixelsOf bytes))) (padded mostEntries noEntry (entries e (pixelsOf bytes)))) (labels e (pixelsOf bytes))
-handed-sound e bytes s =
+as-made e bytes s =
     let es = entries e (pixelsOf bytes) in
     let held = entry-padded mostEntries es in
     record {
@@ -156,3 +157,7 @@ handed-sound e bytes s =
       noneEmpty = λ n l. rw (held n l) (s .noneEmpty n l);
       everyPixel = rw (take-padded mostEntries es) (s .everyPixel ∙ sym (s .labelled));
     }
+
+pub handed-sound : (e : Closeness) (bytes : List ℕ) (len : ℕ) (es : List Entry) (ls : List ℕ) → len ≡ length (entries e (pixelsOf bytes))
+    → es ≡ padded mostEntries noEntry (entries e (pixelsOf bytes)) → ls ≡ labels e (pixelsOf bytes) → SoundCard e (pixelsOf bytes) → SoundAnswer e bytes (made 0 len es) ls
+handed-sound e bytes len es ls n q l s = rw (n, q, l) (as-made e bytes s)

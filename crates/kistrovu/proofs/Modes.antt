@@ -6,7 +6,8 @@ use native.Mathlib.Omega.{arith}
 use borrow.Author.Tests.{eq-eqb, ne-eqb}
 use lib.ListN.{length}
 use Rattle.lists.specs.Lists.{over}
-use Rattle.verdict.specs.Test.{Closeness, mostCloseness}
+use Rattle.verdict.specs.Test.{Closeness}
+use Rattle.verdict.specs.Settings.{Offered}
 use Rattle.verdict.specs.Scratch.{Small}
 use Rattle.segmentation.specs.Joining.{lineSeparators}
 use Rattle.segmentation.specs.Ring.{ringSeparators}
@@ -28,7 +29,7 @@ answer-turned-down xs n number e d = rw (ne-eqb _ _ (λ z. d (e ∙ z))) (λ i. 
 -- what a served call knows of its histogram and its list
 pub record ModesAccepted (e : Closeness) (h : List ℕ) (places : ℕ) : Type 0 where
   pub histogram : Accepted h
-  pub close : e ≤ mostCloseness
+  pub close : Offered e
   pub room : length h ≤ places
 
 module _ (e : Closeness) (h list : List ℕ) (n : ℕ) (number : n ≡ modesNumber e h (length list)) where

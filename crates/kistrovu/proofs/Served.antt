@@ -5,12 +5,15 @@ use mathlib.Core.Bool.{Bool, true, false}
 use mathlib.Core.List.{List, [], _∷_, _++_}
 use lib.Dec.{ltb}
 use lib.ListN.{length}
+use lib.Signed.{ltZ}
 use native.Mathlib.Omega.{arith}
 use native.Mathlib.Decide.{ℕ-discrete}
 use borrow.Author.Tests.{ltb-false}
 use Rattle.lists.proofs.Connectives.{both-false}
+use Rattle.lists.proofs.Signed.{nlt-le-ℤ}
 use Rattle.lists.specs.Lists.{total}
-use Rattle.verdict.specs.Test.{Closeness, mostCloseness}
+use Rattle.verdict.specs.Test.{Closeness, leastCloseness, mostCloseness}
+use Rattle.verdict.specs.Settings.{Offered}
 use Rattle.kistrovu.specs.Grounds.{Ground, firstGround, badLength, largeSum, badCloseness, fewPlaces, fitNumber, verdictNumber, modesNumber}
 
 -- ---- grounds in sequence
@@ -65,6 +68,12 @@ fit-served h e =
     let n = both-false (ltb (length h) 2) (ltb 256 (length h)) (a .0) in
     record { some = ltb-false _ _ (n .0); bins = ltb-false _ _ (n .1); counts = ltb-false _ _ (b .0) }
 
+-- where ground 8 does not hold, the closeness is one that a call takes
+pub closeness-offered : (e : Closeness) → badCloseness e .holds ≡ false → Offered e
+closeness-offered e q =
+    let n = both-false (ltZ e leastCloseness) (ltZ mostCloseness e) q in
+    record { least = nlt-le-ℤ e leastCloseness (n .0); most = nlt-le-ℤ mostCloseness e (n .1) }
+
 module _ (e : Closeness) (h : List ℕ) where
   pub verdict-turned-down : ¬ (fitNumber h ≡ 0) → verdictNumber e h ≡ fitNumber h
   unfolding fitNumber verdictNumber
@@ -74,13 +83,13 @@ module _ (e : Closeness) (h : List ℕ) where
   unfolding fitNumber verdictNumber
   verdict-asked z = grounds-served (badLength h ∷ largeSum h ∷ []) (badCloseness e ∷ []) (omega arith, (omega arith, tt)) z
 
-  pub verdict-served : verdictNumber e h ≡ 0 → (fitNumber h ≡ 0) × (e ≤ mostCloseness)
+  pub verdict-served : verdictNumber e h ≡ 0 → (fitNumber h ≡ 0) × Offered e
   unfolding fitNumber verdictNumber firstGround
   verdict-served z =
       let a = ground-none (badLength h) (largeSum h ∷ badCloseness e ∷ []) (omega arith) z in
       let b = ground-none (largeSum h) (badCloseness e ∷ []) (omega arith) (a .1) in
       let c = ground-none (badCloseness e) [] (omega arith) (b .1) in
-      (ground-passes (badLength h) (largeSum h ∷ []) (a .0) ∙ ground-passes (largeSum h) [] (b .0), ltb-false _ _ (c .0))
+      (ground-passes (badLength h) (largeSum h ∷ []) (a .0) ∙ ground-passes (largeSum h) [] (b .0), closeness-offered e (c .0))
 
 module _ (e : Closeness) (h : List ℕ) (places : ℕ) where
   pub modes-turned-down : ¬ (verdictNumber e h ≡ 0) → modesNumber e h places ≡ verdictNumber e h

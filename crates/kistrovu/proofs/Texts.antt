@@ -4,6 +4,7 @@ use mathlib.Core.Path.{_≡_, refl, sym, ap, _∙_}
 use mathlib.Core.Bool.{Bool, true, false, cond}
 use mathlib.Core.List.{List, []}
 use lib.Dec.{eqb, ltb, eqb·suc-zero}
+use lib.IntN.{pos}
 use lib.ListN.{length, take}
 use native.Mathlib.Omega.{arith}
 use borrow.Author.Tests.{ltb-false, eqb-true, ne-eqb, le-leb}
@@ -32,11 +33,11 @@ use Rattle.kistrovu.proofs.Cards.{take-padded}
 
 -- ---- the number of a text
 many : List ℕ → Bool
-many text = ltb mostEntries (length (entries programCloseness (pixelsOf (bytesOf text))))
+many text = ltb mostEntries (length (entries (pos programCloseness) (pixelsOf (bytesOf text))))
 
 text-number : (text : List ℕ) → textNumber text ≡ cond (eqb (swatchNumber text) 0) (cond (many text) 11 0) (swatchNumber text)
 unfolding textNumber firstGround swatchNumber many
-text-number text = go (missing (headerOf text)) (badSize (sizeOf text)) (missing (pixelBytes text)) (ltb mostEntries (length (entries programCloseness (pixelsOf (bytesOf text)))))
+text-number text = go (missing (headerOf text)) (badSize (sizeOf text)) (missing (pixelBytes text)) (ltb mostEntries (length (entries (pos programCloseness) (pixelsOf (bytesOf text)))))
   where
     go : (a b c d : Bool) → _≡_ {A = ℕ} (cond a 1 (cond b 2 (cond c 3 (cond d 11 0))))
         (cond (eqb (cond a 1 (cond b 2 (cond c 3 0))) 0) (cond d 11 0) (cond a 1 (cond b 2 (cond c 3 0))))
@@ -66,9 +67,9 @@ text-refused text buffer n number some =
 module _ (text before after : List ℕ) (r : Outcome) where
   pub text-made : swatchNumber text ≡ 0 → PixelsPrinted (bytesOf text) before after r → TextPrinted text before after r
   unfolding printed many
-  text-made z p = go (ltb mostEntries (length (entries programCloseness (pixelsOf (bytesOf text))))) refl
+  text-made z p = go (ltb mostEntries (length (entries (pos programCloseness) (pixelsOf (bytesOf text))))) refl
     where
-      go : (t : Bool) → ltb mostEntries (length (entries programCloseness (pixelsOf (bytesOf text)))) ≡ t → TextPrinted text before after r
+      go : (t : Bool) → ltb mostEntries (length (entries (pos programCloseness) (pixelsOf (bytesOf text)))) ≡ t → TextPrinted text before after r
       go true q =
           let is : textNumber text ≡ 11 = text-number text ∙ rw (z, q) refl in (
             record { numbered = rw is (rw q at (p .0 .numbered)); long = rw is (rw q at (p .0 .long)); written = rw is (rw q at (p .0 .written)) },
@@ -102,7 +103,7 @@ pub text-fits : PrintedFits
 unfolding printed many
 text-fits text =
     let ps = pixelsOf (bytesOf text) in
-    let es = entries programCloseness ps in
+    let es = entries (pos programCloseness) ps in
     by-cond (λ (xs : List ℕ). length xs ≤ printedMost) (eqb (textNumber text) 0) (printedCard (length ps) programCloseness es) []
     (λ q. printed-fits (length ps) programCloseness es (ltb-false mostEntries (length es) (text-few text (eqb-true (textNumber text) 0 q))))
     (λ q. omega arith)

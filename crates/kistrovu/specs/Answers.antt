@@ -88,7 +88,7 @@ labelList e bytes list = served (cardNumber e bytes (length list)) (labels e (pi
 unfoldable pub printed : List ℕ → List ℕ
 printed text =
     let ps = pixelsOf (bytesOf text) in
-    served (textNumber text) (printedCard (length ps) programCloseness (entries programCloseness ps)) []
+    served (textNumber text) (printedCard (length ps) programCloseness (entries (pos programCloseness) ps)) []
 
 -- the bytes to print in the first places, and zeros in the rest (A4)
 abbrev pub printedBytes : ℕ → List ℕ → Printed

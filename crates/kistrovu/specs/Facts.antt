@@ -4,6 +4,7 @@ use mathlib.Core.Path.{_≡_}
 use mathlib.Core.Bool.{cond}
 use mathlib.Core.List.{List, map}
 use lib.Dec.{ltb, eqb}
+use lib.IntN.{pos}
 use lib.ListN.{length, take, getD}
 use Rattle.lists.specs.Lists.{over, total, countIf, ExactlyOne}
 use Rattle.verdict.specs.Test.{Closeness}
@@ -69,9 +70,9 @@ PrintedFits = (text : List ℕ) → length (printed text) ≤ printedMost
 
 -- X3 and X4: a swatch that is written in this form is never turned down for its text, but only for too many entries (G11); otherwise its card is printed
 pub record SwatchAnswered (width height : ℕ) (ps : List Pixel) : Type 0 where
-  pub number : textNumber (writtenSwatch width height ps) ≡ cond (ltb mostEntries (length (entries programCloseness ps))) 11 0
+  pub number : textNumber (writtenSwatch width height ps) ≡ cond (ltb mostEntries (length (entries (pos programCloseness) ps))) 11 0
   pub card : IfServed (textNumber (writtenSwatch width height ps))
-      (printed (writtenSwatch width height ps) ≡ printedCard (length ps) programCloseness (entries programCloseness ps))
+      (printed (writtenSwatch width height ps) ≡ printedCard (length ps) programCloseness (entries (pos programCloseness) ps))
 
 -- proved in proofs/Texts
 abbrev pub WrittenServed : Type 0

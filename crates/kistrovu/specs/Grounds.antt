@@ -3,9 +3,11 @@ use Prim.Native.Nat.{ℕ, _/_, _%_}
 use mathlib.Core.Bool.{Bool, cond, not, _||_}
 use mathlib.Core.List.{List, [], _∷_}
 use lib.Dec.{ltb, eqb}
+use lib.IntN.{pos}
 use lib.ListN.{length}
+use lib.Signed.{ltZ}
 use Rattle.lists.specs.Lists.{total, missing}
-use Rattle.verdict.specs.Test.{Closeness, mostCloseness}
+use Rattle.verdict.specs.Test.{Closeness, leastCloseness, mostCloseness}
 use Rattle.palette.specs.Cards.{entries, mostEntries, pixelsOf}
 use Rattle.palette.specs.Sound.{mostPixels}
 use Rattle.swatch.specs.Input.{headerOf, sizeOf, pixelBytes, bytesOf}
@@ -48,9 +50,9 @@ badLength h = record { number = 6; holds = ltb (length h) 2 || ltb 256 (length h
 abbrev pub largeSum : List ℕ → Ground
 largeSum h = record { number = 7; holds = ltb 65536 (total h) }
 
--- G8: too large a closeness
+-- G8: too small a closeness, or too large
 abbrev pub badCloseness : Closeness → Ground
-badCloseness e = record { number = 8; holds = ltb mostCloseness e }
+badCloseness e = record { number = 8; holds = ltZ e leastCloseness || ltZ mostCloseness e }
 
 -- G9: the labels do not match the pixels
 abbrev pub badLabels : List ℕ → ℕ → Ground
@@ -82,10 +84,10 @@ askedNumber e bytes places = firstGround (badBytes bytes ∷ manyPixels bytes �
 unfoldable pub cardNumber : Closeness → List ℕ → ℕ → ℕ
 cardNumber e bytes places = firstGround (badBytes bytes ∷ manyPixels bytes ∷ badCloseness e ∷ badLabels bytes places ∷ manyEntries e bytes ∷ [])
 
--- X6: the closeness of the text call
-unfoldable pub programCloseness : Closeness
+-- X6: the closeness that the text call works at and prints; a field has no sign
+unfoldable pub programCloseness : ℕ
 programCloseness = 0
 
 -- the number of the text of a swatch
 unfoldable pub textNumber : List ℕ → ℕ
-textNumber text = firstGround (noHeader text ∷ wrongSize text ∷ badLines text ∷ manyEntries programCloseness (bytesOf text) ∷ [])
+textNumber text = firstGround (noHeader text ∷ wrongSize text ∷ badLines text ∷ manyEntries (pos programCloseness) (bytesOf text) ∷ [])

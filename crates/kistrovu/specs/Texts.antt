@@ -4,6 +4,7 @@ use mathlib.Core.Path.{_≡_}
 use mathlib.Core.Bool.{cond}
 use mathlib.Core.List.{List, []}
 use lib.Dec.{ltb}
+use lib.IntN.{pos}
 use lib.ListN.{length}
 use Rattle.lists.specs.Lists.{over}
 use Rattle.palette.specs.Cards.{pixelsOf, entries, mostEntries}
@@ -25,11 +26,11 @@ pub record Prints (number : ℕ) (list before after : List ℕ) (r : Outcome) : 
 abbrev pub PixelsPrinted : List ℕ → List ℕ → List ℕ → Outcome → Type 0
 PixelsPrinted bytes before after r =
     let ps = pixelsOf bytes in
-    let es = entries programCloseness ps in
+    let es = entries (pos programCloseness) ps in
     let many = ltb mostEntries (length es) in
     Prints (cond many 11 0) (cond many [] (printedCard (length ps) programCloseness es)) before after r
-    × SoundCard programCloseness ps
+    × SoundCard (pos programCloseness) ps
 
 abbrev pub TextPrinted : List ℕ → List ℕ → List ℕ → Outcome → Type 0
 TextPrinted text before after r =
-    Prints (textNumber text) (printed text) before after r × IfServed (textNumber text) (SoundCard programCloseness (pixelsOf (bytesOf text)))
+    Prints (textNumber text) (printed text) before after r × IfServed (textNumber text) (SoundCard (pos programCloseness) (pixelsOf (bytesOf text)))

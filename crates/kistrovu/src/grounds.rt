@@ -1,11 +1,12 @@
 // The number of a call: that of the first ground that holds, of those that concern the call, or 0 if none holds.
 use palette::MOST_PIXELS;
+use verdict::LEAST_CLOSENESS;
 use verdict::MOST_CLOSENESS;
 ghost use mathlib.Core.Path.{_≡_};
 ghost use Prim.Native.Nat.{_≤_};
 ghost use lib.ListN.{length};
 ghost use Rattle.lists.specs.Lists.{total};
-ghost use Rattle.kistrovu.specs.Grounds.{fitNumber, verdictNumber, modesNumber, askedNumber};
+ghost use Rattle.kistrovu.specs.Grounds.{badCloseness, fitNumber, verdictNumber, modesNumber, askedNumber};
 
 // The sum of the counts. There are at most 256 of them, so it cannot overflow.
 fn sum(h: &[u32]) -> u64
@@ -36,20 +37,27 @@ pub fn fit_number(h: &[u32]) -> u32
     0
 }
 
-pub fn verdict_number(h: &[u32], closeness: u32) -> u32
+// Ground 8.
+fn bad_closeness(closeness: i32) -> bool
+    ensures { λ r. ⌜ r ≡ badCloseness closeness .holds ⌝ }
+{
+    closeness < LEAST_CLOSENESS || MOST_CLOSENESS < closeness
+}
+
+pub fn verdict_number(h: &[u32], closeness: i32) -> u32
     ensures { λ r. ⌜ r ≡ verdictNumber closeness (now (h .entry)) ⌝ }
 {
     let number = fit_number(h);
     if number != 0 {
         return number;
     }
-    if MOST_CLOSENESS < closeness {
+    if bad_closeness(closeness) {
         return 8;
     }
     0
 }
 
-pub fn modes_number(h: &[u32], closeness: u32, places: usize) -> u32
+pub fn modes_number(h: &[u32], closeness: i32, places: usize) -> u32
     ensures { λ r. ⌜ r ≡ modesNumber closeness (now (h .entry)) places ⌝ }
 {
     let number = verdict_number(h, closeness);
@@ -63,7 +71,7 @@ pub fn modes_number(h: &[u32], closeness: u32, places: usize) -> u32
 }
 
 // The number of a card call, as far as it is known before the entries are found.
-pub fn card_asked(pixels: &[u8], closeness: u32, places: usize) -> u32
+pub fn card_asked(pixels: &[u8], closeness: i32, places: usize) -> u32
     ensures { λ r. ⌜ r ≡ askedNumber closeness (now (pixels .entry)) places ⌝ }
 {
     let bytes = pixels.len();
@@ -76,7 +84,7 @@ pub fn card_asked(pixels: &[u8], closeness: u32, places: usize) -> u32
     if MOST_PIXELS < bytes / 3 {
         return 5;
     }
-    if MOST_CLOSENESS < closeness {
+    if bad_closeness(closeness) {
         return 8;
     }
     if places != bytes / 3 {

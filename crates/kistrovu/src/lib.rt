@@ -7,6 +7,7 @@ use pixel::Pixel;
 use swatch::PRINTED_MOST;
 use verdict::Verdict;
 ghost use mathlib.Core.Path.{_≡_};
+ghost use lib.IntN.{pos};
 ghost use lib.ListN.{length};
 ghost use Rattle.pooling.specs.Blocks.{direction};
 ghost use Rattle.pooling.specs.Best.{Pooled};
@@ -123,7 +124,7 @@ pub extern "C" fn kistrovu_fit(histogram: &[u32], rising: bool) -> FitAnswer
 
 // The verdict of a whole histogram. Grounds 6, 7, 8.
 #[no_mangle]
-pub extern "C" fn kistrovu_verdict(histogram: &[u32], rising: bool, closeness: u32) -> VerdictAnswer
+pub extern "C" fn kistrovu_verdict(histogram: &[u32], rising: bool, closeness: i32) -> VerdictAnswer
     ensures { λ r. ⌜ (r ≡ verdictAnswer closeness rising (now (histogram .entry)))
         × IfServed (r .number) (VerdictSound closeness (direction rising) (now (histogram .entry))) ⌝ }
 {
@@ -131,7 +132,7 @@ pub extern "C" fn kistrovu_verdict(histogram: &[u32], rising: bool, closeness: u
     if number == 0 {
         VerdictAnswer {
             number: 0,
-            verdict: verdict::judge(histogram, rising, closeness),
+            verdict: verdict::judge(histogram, rising, verdict::setting_of(closeness)),
         }
     } else {
         VerdictAnswer {
@@ -148,7 +149,7 @@ pub extern "C" fn kistrovu_verdict(histogram: &[u32], rising: bool, closeness: u
 #[no_mangle]
 pub extern "C" fn kistrovu_line_modes(
     histogram: &[u32],
-    closeness: u32,
+    closeness: i32,
     separators: &mut [u32],
 ) -> ModesAnswer
     ensures { λ r. ⌜ (r ≡ lineAnswer closeness (now (histogram .entry)) (length (now (separators .entry))))
@@ -164,7 +165,11 @@ pub extern "C" fn kistrovu_line_modes(
     }
     ModesAnswer {
         number: 0,
-        separators: segmentation::line_separators(histogram, closeness, separators),
+        separators: segmentation::line_separators(
+            histogram,
+            verdict::setting_of(closeness),
+            separators,
+        ),
     }
 }
 
@@ -172,7 +177,7 @@ pub extern "C" fn kistrovu_line_modes(
 #[no_mangle]
 pub extern "C" fn kistrovu_ring_modes(
     histogram: &[u32],
-    closeness: u32,
+    closeness: i32,
     separators: &mut [u32],
 ) -> ModesAnswer
     ensures { λ r. ⌜ (r ≡ ringAnswer closeness (now (histogram .entry)) (length (now (separators .entry))))
@@ -188,13 +193,17 @@ pub extern "C" fn kistrovu_ring_modes(
     }
     ModesAnswer {
         number: 0,
-        separators: segmentation::ring_separators(histogram, closeness, separators),
+        separators: segmentation::ring_separators(
+            histogram,
+            verdict::setting_of(closeness),
+            separators,
+        ),
     }
 }
 
 // The card of an image of three bytes a pixel, and the label of each pixel: its entry's number. Grounds 4, 5, 8, 9, 11.
 #[no_mangle]
-pub extern "C" fn kistrovu_card(pixels: &[u8], closeness: u32, labels: &mut [u8]) -> Card
+pub extern "C" fn kistrovu_card(pixels: &[u8], closeness: i32, labels: &mut [u8]) -> Card
     ensures { λ r. ⌜ (r ≡ cardAnswer closeness (now (pixels .entry)) (length (now (labels .entry))))
         × (now (labels .exit) ≡ labelList closeness (now (pixels .entry)) (now (labels .entry)))
         × IfServed (r .number) (SoundAnswer closeness (now (pixels .entry)) r (now (labels .exit))) ⌝ }
@@ -207,7 +216,7 @@ pub extern "C" fn kistrovu_card(pixels: &[u8], closeness: u32, labels: &mut [u8]
             entries: palette::no_entries(),
         };
     }
-    let made = making::make_card(pixels, closeness, labels);
+    let made = making::make_card(pixels, verdict::setting_of(closeness), labels);
     let entries = made.entries;
     if MOST_ENTRIES < made.total as usize {
         return Card {
@@ -227,7 +236,7 @@ pub extern "C" fn kistrovu_card(pixels: &[u8], closeness: u32, labels: &mut [u8]
 #[no_mangle]
 pub extern "C" fn kistrovu_print_card(text: &[u8]) -> Printed
     ensures { λ r. ⌜ (r ≡ printedAnswer (now (text .entry)))
-        × IfServed (r .number) (SoundCard programCloseness (pixelsOf (bytesOf (now (text .entry))))) ⌝ }
+        × IfServed (r .number) (SoundCard (pos programCloseness) (pixelsOf (bytesOf (now (text .entry))))) ⌝ }
 {
     let mut bytes = [0u8; PRINTED_MOST];
     let outcome = printing::print(text, &mut bytes);

@@ -5,7 +5,7 @@ use swatch::MOST_SWATCH_PIXELS;
 ghost use mathlib.Core.Path.{_≡_};
 ghost use Prim.Native.Nat.{_≤_, _*_, _/_};
 ghost use lib.ListN.{length};
-ghost use Rattle.verdict.specs.Test.{mostCloseness};
+ghost use Rattle.verdict.specs.Settings.{lastSetting, closenessOf};
 ghost use Rattle.palette.specs.Cards.{pixelsOf};
 ghost use Rattle.making.specs.Making.{cardEntries};
 ghost use Rattle.swatch.specs.Output.{printedMost};
@@ -18,13 +18,13 @@ pub struct Outcome {
     pub len: u32,
 }
 
-// The closeness of every text.
+// The closeness that every text is worked at, and that is printed.
 const PROGRAM_CLOSENESS: u32 = 0;
 
 // The entries of a swatch, in scratch for as many pixels as it may have: a quarter of what the largest image asks. A text has no labels.
-fn swatch_entries(pixels: &[u8], closeness: u32) -> CardEntries
-    requires { ⌜ (length (now pixels) ≡ 3 * (length (now pixels) / 3)) × (length (now pixels) ≤ 3 * mostSwatchPixels) × (closeness ≤ mostCloseness) ⌝ }
-    ensures { λ r. ⌜ r ≡ cardEntries closeness (pixelsOf (now (pixels .entry))) ⌝ }
+fn swatch_entries(pixels: &[u8], setting: u32) -> CardEntries
+    requires { ⌜ (length (now pixels) ≡ 3 * (length (now pixels) / 3)) × (length (now pixels) ≤ 3 * mostSwatchPixels) × (setting ≤ lastSetting) ⌝ }
+    ensures { λ r. ⌜ r ≡ cardEntries (closenessOf setting) (pixelsOf (now (pixels .entry))) ⌝ }
 {
     let mut order = [0u16; MOST_SWATCH_PIXELS];
     let mut other = [0u16; MOST_SWATCH_PIXELS];
@@ -33,7 +33,7 @@ fn swatch_entries(pixels: &[u8], closeness: u32) -> CardEntries
     let mut sizes = [0u32; MOST_ENTRIES];
     making::make_entries(
         pixels,
-        closeness,
+        setting,
         &mut order,
         &mut other,
         &mut keys,
@@ -48,7 +48,7 @@ fn print_pixels(pixels: &[u8], out: &mut [u8]) -> Outcome
     ensures { λ r. ⌜ PixelsPrinted (now (pixels .entry)) (now (out .entry)) (now (out .exit)) r ⌝ }
 {
     let n = pixels.len() / 3;
-    let made = swatch_entries(pixels, PROGRAM_CLOSENESS);
+    let made = swatch_entries(pixels, verdict::setting_of(PROGRAM_CLOSENESS as i32));
     let entries = made.entries;
     if MOST_ENTRIES < made.total as usize {
         return Outcome { number: 11, len: 0 };

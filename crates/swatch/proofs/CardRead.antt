@@ -1,11 +1,14 @@
 -- A printed card shows its figures. Assumes nothing.
-use Prim.Native.Nat.{ℕ, _/_, _<_, _^_}
+use Prim.Native.Nat.{ℕ, _/_, _≤_, _<_, _^_}
 use mathlib.Core.Path.{_≡_, sym, ap, _∙_}
 use mathlib.Core.List.{List, [], _∷_, _++_, map, flatMap, map-map, map-id}
 use mathlib.Core.Option.{Option, some}
 use native.Mathlib.Omega.{arith}
 use native.Mathlib.Nat.{mul-add-div}
+use lib.Dec.{leb→le}
+use lib.IntN.{pos}
 use lib.ListN.{length, getD}
+use lib.Signed.{_≤ℤ_}
 use Rattle.lists.specs.Lists.{whole}
 use Rattle.lists.proofs.Each.{Each, each-from, each-at, each-so}
 use Rattle.lists.proofs.Flattened.{flat-map-map, each-map}
@@ -54,10 +57,11 @@ entry-small pixels t l b = (
 pub card-read : CardRead
 unfolding mostCloseness mostPixels mostEntries
 card-read e ps bytes k few least =
-    let es = entries e ps in
+    let es = entries (pos e) ps in
+    let close : e ≤ 20 = leb→le e 20 (k .le) in
     let each : Each (Below (10 ^ 6)) (map entryFigures es) =
     each-map (Below (10 ^ 6)) entryFigures es
-    (each-so (EntryBounds (length ps)) _ es (λ t b. entry-small (length ps) t (omega arith) b) (each-from (EntryBounds (length ps)) es noEntry (figures-bounded e ps bytes))) in
+    (each-so (EntryBounds (length ps)) _ es (λ t b. entry-small (length ps) t (omega arith) b) (each-from (EntryBounds (length ps)) es noEntry (figures-bounded (pos e) ps bytes))) in
     let rows : Each (Below (10 ^ 6)) (cardFigures (length ps) e es) = ((omega arith, (omega arith, (omega arith, tt))), each) in
     record {
       small = rows-small (cardFigures (length ps) e es) rows;

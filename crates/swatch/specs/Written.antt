@@ -8,11 +8,13 @@ use mathlib.Core.Bool.{cond, _&&_}
 use mathlib.Core.List.{List, [], _∷_, _++_, map, flatMap}
 use mathlib.Core.Option.{Option, none, some}
 use lib.Dec.{eqb}
+use lib.IntN.{pos}
 use lib.ListN.{length, getD}
+use lib.Signed.{_≤ℤ_}
 use Rattle.lists.specs.Lists.{whole}
 use Rattle.pixel.specs.declared.Pixel.{Pixel}
 use Rattle.pixel.specs.Ranges.{Bytes}
-use Rattle.verdict.specs.Test.{Closeness, mostCloseness}
+use Rattle.verdict.specs.Test.{mostCloseness}
 use Rattle.palette.specs.declared.Entry.{Entry}
 use Rattle.palette.specs.Cards.{entries, mostEntries, pixelsOf}
 use Rattle.palette.specs.Sound.{pixelAt, mostPixels}
@@ -70,12 +72,12 @@ SmallFigures rows = (i j : ℕ) → i < length rows → j < length (getD rows i 
 abbrev pub LinesRead : Type 0
 LinesRead = (rows : List (List ℕ)) → SmallFigures rows → figuresIn (flatMap printedLine rows) ≡ some rows
 
--- what is printed for the card of these pixels
-pub record CardReadBack (e : Closeness) (ps : List Pixel) : Type 0 where
-  pub small : SmallFigures (cardFigures (length ps) e (entries e ps))
-  pub figures : figuresIn (printedCard (length ps) e (entries e ps)) ≡ some (cardFigures (length ps) e (entries e ps))
+-- what is printed for the card of these pixels. A field has no sign (X2), so the closeness e is not negative
+pub record CardReadBack (e : ℕ) (ps : List Pixel) : Type 0 where
+  pub small : SmallFigures (cardFigures (length ps) e (entries (pos e) ps))
+  pub figures : figuresIn (printedCard (length ps) e (entries (pos e) ps)) ≡ some (cardFigures (length ps) e (entries (pos e) ps))
 
 -- every card that is served shows its figures (X5; the limits of G5, G8 and G11)
 abbrev pub CardRead : Type 0
-CardRead = (e : Closeness) (ps : List Pixel) → ((i : ℕ) → i < length ps → Bytes (pixelAt ps i))
-    → e ≤ mostCloseness → length ps ≤ mostPixels → length (entries e ps) ≤ mostEntries → CardReadBack e ps
+CardRead = (e : ℕ) (ps : List Pixel) → ((i : ℕ) → i < length ps → Bytes (pixelAt ps i))
+    → pos e ≤ℤ mostCloseness → length ps ≤ mostPixels → length (entries (pos e) ps) ≤ mostEntries → CardReadBack e ps

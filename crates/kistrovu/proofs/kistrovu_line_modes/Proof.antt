@@ -1,37 +1,74 @@
 -- `kistrovu_line_modes` keeps its promise. Assumes nothing.
-use Rattle.kistrovu.proofs.Modes.{modes-accepted, modes-small, line-served, line-listed, line-finished, line-turned-down, line-as-lent}
+use mathlib.Core.Path.{_≡_, ap, _∙_}
+use mathlib.Core.List.{List}
 use borrow.Author.Needs.{needs}
+use Prim.Native.Nat.{ℕ}
+use lib.ListN.{length}
+use mir.Syntax.{w32}
+use mir.Val.{toZ, ofZ}
+use mir.ValLaws.{toZ-ofZ}
+use Rattle.lists.specs.Lists.{over}
+use Rattle.verdict.specs.Test.{Closeness}
+use Rattle.verdict.specs.Settings.{closenessOf}
+use Rattle.segmentation.specs.Joining.{lineSeparators}
+use Rattle.kistrovu.specs.Grounds.{modesNumber}
+use Rattle.kistrovu.proofs.Modes.{modes-accepted, modes-small, line-served, line-listed, line-finished, line-turned-down, line-as-lent}
 use Rattle.kistrovu.proofs.kistrovu_line_modes.Statement.{statement}
 use Rattle.kistrovu.proofs.kistrovu_line_modes.Tie as tie
+
+-- the machine's number is the closeness
+as-given : (s : tie.Start) → toZ w32 (ofZ w32 (s .args .closeness)) ≡ s .args .closeness
+as-given s = toZ-ofZ w32 (s .args .closeness) (s .fits .closeness)
 
 modes-number-requires : tie.Need-modes-number-requires
 modes-number-requires c κs = search needs
 
+number : (c : tie.After-modes-number)
+    → let s = c .before .before .before in c .modes-number .result ≡ modesNumber (s .args .closeness) (s .args .histogram .now) (length (s .args .separators .now))
+number c =
+    let s = c .before .before .before in
+    c .modes-number .ensures ∙ ap (λ (e : Closeness). modesNumber e (s .args .histogram .now) (length (s .args .separators .now))) (as-given s)
+
 returns : tie.Need-returns
 returns c =
-    let s = c .before .before .before .before in
-    let n = c .before .modes-number in
-    (line-turned-down (s .args .closeness) (s .args .histogram .now) (s .args .separators .now) _ (n .ensures) (c .if1 .taken), line-as-lent (s .args .closeness) (s .args .histogram .now) (s .args .separators .now) _ (n .ensures) (c .if1 .taken), λ z. absurd (c .if1 .taken z))
+    let m = c .before in
+    let s = m .before .before .before in (
+      line-turned-down (s .args .closeness) (s .args .histogram .now) (s .args .separators .now) _ (number m) (c .if1 .taken),
+      line-as-lent (s .args .closeness) (s .args .histogram .now) (s .args .separators .now) _ (number m) (c .if1 .taken),
+      λ z. absurd (c .if1 .taken z),
+    )
+
+setting-of-requires : tie.Need-setting-of-requires
+setting-of-requires c κs =
+    let m = c .before in
+    let s = m .before .before .before in
+    rw (as-given s) (modes-accepted (s .args .closeness) (s .args .histogram .now) (s .args .separators .now) _ (number m) (c .if1 .left) .close)
 
 line-separators-requires : tie.Need-line-separators-requires
 line-separators-requires c κs =
-    let s = c .before .before .before .before .before in
-    let n = c .before .before .modes-number in
-    let a = modes-accepted (s .args .closeness) (s .args .histogram .now) (s .args .separators .now) _ (n .ensures) (c .before .if1 .left) in
-    (modes-small (s .args .closeness) (s .args .histogram .now) (s .args .separators .now) _ (n .ensures) (c .before .if1 .left), (a .histogram .some, a .close, a .room))
+    let m = c .before .before .before in
+    let s = m .before .before .before in
+    let a = modes-accepted (s .args .closeness) (s .args .histogram .now) (s .args .separators .now) _ (number m) (c .before .before .if1 .left) in
+    (modes-small (s .args .closeness) (s .args .histogram .now) (s .args .separators .now) _ (number m) (c .before .before .if1 .left), (a .histogram .some, c .before .setting-of .ensures .0, a .room))
 
 same-length : tie.Need-same-length
 same-length c = search needs
 
 returns-2 : tie.Need-returns-2
 returns-2 c =
-    let s = c .before .before .before .before .before .before .before .before in
-    let n = c .before .before .before .before .before .modes-number in
-    let z = c .before .before .before .before .if1 .left in
     let f = c .before .before .line-separators in
-    (line-served (s .args .closeness) (s .args .histogram .now) (s .args .separators .now) _ (n .ensures) z _ (f .ensures .0), line-listed (s .args .closeness) (s .args .histogram .now) (s .args .separators .now) _ (n .ensures) z _ (f .ensures .1), λ u. line-finished (s .args .closeness) (s .args .histogram .now) (s .args .separators .now) _ (n .ensures) z)
+    let setting = c .before .before .before .before in
+    let m = setting .before .before in
+    let s = m .before .before .before in
+    let z = setting .before .if1 .left in
+    let is : closenessOf (setting .setting-of .result) ≡ s .args .closeness = setting .setting-of .ensures .1 ∙ as-given s in
+    let count = f .ensures .0 ∙ ap (λ (e : Closeness). length (lineSeparators e (s .args .histogram .now))) is in (
+      line-served (s .args .closeness) (s .args .histogram .now) (s .args .separators .now) _ (number m) z _ count,
+      line-listed (s .args .closeness) (s .args .histogram .now) (s .args .separators .now) _ (number m) z _ (f .ensures .1 ∙ ap (λ (e : Closeness). over (lineSeparators e (s .args .histogram .now)) (s .args .separators .now)) is),
+      λ u. line-finished (s .args .closeness) (s .args .histogram .now) (s .args .separators .now) _ (number m) z,
+    )
 
 pub kistrovu-line-modes-spec : {M : Type 1} → statement M
 kistrovu-line-modes-spec =
     tie.close
-    (tie.spec modes-number-requires returns line-separators-requires same-length returns-2)
+    (tie.spec modes-number-requires returns setting-of-requires line-separators-requires same-length returns-2)

@@ -1,10 +1,12 @@
 -- `verdict_number` meets its contract: the grounds of a fit come first. Assumes nothing.
-use mathlib.Core.Path.{sym, _∙_}
+use mathlib.Core.Path.{_≡_, sym, ap, _∙_}
+use mathlib.Core.List.{[]}
 use borrow.Author.Needs.{needs}
-use borrow.Author.Tests.{lt-ltb, le-ltb}
-use Rattle.verdict.specs.Test.{mostCloseness}
-use Rattle.kistrovu.specs.Grounds.{firstGround}
-use Rattle.kistrovu.proofs.Served.{verdict-turned-down, verdict-asked}
+use mir.Syntax.{w32}
+use mir.ValLaws.{toZ-ofZ}
+use Rattle.verdict.specs.Test.{Closeness}
+use Rattle.kistrovu.specs.Grounds.{firstGround, badCloseness}
+use Rattle.kistrovu.proofs.Served.{ground-holds, ground-passes, verdict-turned-down, verdict-asked}
 use Rattle.kistrovu.proofs.grounds.verdict_number.Statement.{statement}
 use Rattle.kistrovu.proofs.grounds.verdict_number.Tie as tie
 
@@ -16,17 +18,30 @@ returns c =
     let s = c .before .before .before in
     c .before .fit-number .ensures ∙ sym (verdict-turned-down (s .args .closeness) (s .args .h .now) (rw (c .before .fit-number .ensures) at (c .if1 .taken)))
 
-returns-2 : tie.Need-returns-2
-unfolding firstGround mostCloseness
-returns-2 c =
+bad-closeness-requires : tie.Need-bad-closeness-requires
+bad-closeness-requires c κs = search needs
+
+-- ground 8, once no ground of a fit holds
+eight : (c : tie.After-bad-closeness) → let s = c .before .before .before .before in c .bad-closeness .result ≡ badCloseness (s .args .closeness) .holds
+eight c =
     let s = c .before .before .before .before in
-    sym (verdict-asked (s .args .closeness) (s .args .h .now) (sym (c .before .before .fit-number .ensures) ∙ c .before .if1 .left) ∙ simp (lt-ltb _ _ (c .if2 .taken)))
+    c .bad-closeness .ensures ∙ ap (λ (e : Closeness). badCloseness e .holds) (toZ-ofZ w32 (s .args .closeness) (s .fits .closeness))
+
+returns-2 : tie.Need-returns-2
+returns-2 c =
+    let s = c .before .before .before .before .before in
+    let n = c .before .before .before .fit-number in
+    sym (verdict-asked (s .args .closeness) (s .args .h .now) (sym (n .ensures) ∙ c .before .before .if1 .left)
+    ∙ ground-holds (badCloseness (s .args .closeness)) [] (sym (eight (c .before)) ∙ c .if2 .taken))
 
 returns-3 : tie.Need-returns-3
-unfolding firstGround mostCloseness
+unfolding firstGround
 returns-3 c =
-    let s = c .before .before .before .before in
-    sym (verdict-asked (s .args .closeness) (s .args .h .now) (sym (c .before .before .fit-number .ensures) ∙ c .before .if1 .left) ∙ simp (le-ltb _ _ (c .if2 .left)))
+    let s = c .before .before .before .before .before in
+    let n = c .before .before .before .fit-number in
+    sym (verdict-asked (s .args .closeness) (s .args .h .now) (sym (n .ensures) ∙ c .before .before .if1 .left)
+    ∙ ground-passes (badCloseness (s .args .closeness)) [] (sym (eight (c .before)) ∙ c .if2 .left))
 
 pub verdict-number-spec : {M : Type 1} → statement M
-verdict-number-spec = tie.close (tie.spec fit-number-requires returns returns-2 returns-3)
+verdict-number-spec =
+    tie.close (tie.spec fit-number-requires returns bad-closeness-requires returns-2 returns-3)
