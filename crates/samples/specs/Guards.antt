@@ -1,9 +1,9 @@
 -- Rows that plausible misreadings of the rules get wrong; each comment says what its rows pin down. proofs/Tables has one proof of them all. Assumes nothing.
 use mathlib.Core.Bool.{true, false}
 use mathlib.Core.List.{List, [], _∷_}
-use lib.IntN.{pos, negsuc}
+use lib.IntN.{pos}
 use Rattle.pooling.specs.Blocks.{increasing, decreasing}
-use Rattle.samples.specs.Rows.{Sample, measures, logarithm, fit, mass, verdict, line, modes, inLine, ring, block, mode, AllHold}
+use Rattle.samples.specs.Rows.{Sample, measures, logarithm, fit, mass, verdict, asked, line, modes, inLine, ring, minus, block, mode, AllHold}
 
 abbrev pub guards : List Sample
 guards =
@@ -36,47 +36,64 @@ guards =
     ∷ mass increasing (4 ∷ 2 ∷ 1 ∷ []) 0 1 14 3
     -- across blocks B is the product of the two lengths, not their least common multiple
     ∷ mass increasing (4 ∷ 3 ∷ 1 ∷ 10 ∷ 9 ∷ 0 ∷ []) 1 4 162 9
-    ∷ verdict 0 increasing (4 ∷ 3 ∷ 1 ∷ 10 ∷ 9 ∷ 0 ∷ []) (pos 404017655) true
+    ∷ verdict (pos 0) increasing (4 ∷ 3 ∷ 1 ∷ 10 ∷ 9 ∷ 0 ∷ []) (pos 404017655) true
     -- every part is tested, not only the whole stretch
-    ∷ verdict 0 increasing (20 ∷ 0 ∷ []) (pos 1235812248) true
+    ∷ verdict (pos 0) increasing (20 ∷ 0 ∷ []) (pos 1235812248) true
     -- a cost of exactly 0 rejects
-    ∷ verdict 0 increasing (155 ∷ 1183 ∷ 1090 ∷ []) (pos 0) true
+    ∷ verdict (pos 0) increasing (155 ∷ 1183 ∷ 1090 ∷ []) (pos 0) true
     -- each step of the closeness raises the bar by one bit
-    ∷ verdict 1 increasing (155 ∷ 1183 ∷ 1090 ∷ []) (negsuc 67108863) false
+    ∷ verdict (pos 1) increasing (155 ∷ 1183 ∷ 1090 ∷ []) (minus 67108864) false
     -- a stretch that is monotone in the tested direction costs minus the bar
-    ∷ verdict 0 increasing (1 ∷ 2 ∷ 2 ∷ []) (negsuc 173473895) false
+    ∷ verdict (pos 0) increasing (1 ∷ 2 ∷ 2 ∷ []) (minus 173473896) false
     -- one bin is never rejected, even at a cost of 0
-    ∷ verdict 0 increasing (5 ∷ []) (pos 0) false
+    ∷ verdict (pos 0) increasing (5 ∷ []) (pos 0) false
+    -- a negative closeness lowers the bar: here to one bit, and the cost is exactly 0
+    ∷ verdict (minus 1) increasing (1 ∷ 0 ∷ 0 ∷ []) (pos 0) true
+    -- the bar may be below 0. Then a stretch without a step against its fit is accepted at a cost above 0, and one with such a step is not
+    ∷ verdict (minus 10) increasing (0 ∷ 1 ∷ []) (pos 564723608) false
+    ∷ verdict (minus 10) increasing (1 ∷ 0 ∷ []) (pos 631832472) true
+    ∷ verdict (minus 10) decreasing (1 ∷ 0 ∷ []) (pos 564723608) false
+    -- equal bins are no step, in either direction
+    ∷ verdict (minus 10) increasing (3 ∷ 3 ∷ 3 ∷ []) (pos 497614744) false
+    ∷ verdict (minus 10) decreasing (3 ∷ 3 ∷ 3 ∷ []) (pos 497614744) false
+    -- one step against the fit is enough, the first or the last
+    ∷ verdict (minus 10) increasing (2 ∷ 1 ∷ 2 ∷ []) (pos 510071348) true
+    ∷ verdict (minus 10) decreasing (2 ∷ 1 ∷ 2 ∷ []) (pos 510071348) true
+    -- −10 to 20 are served, and no other closeness
+    ∷ asked (minus 11) (0 ∷ 1 ∷ []) 8
+    ∷ asked (minus 10) (0 ∷ 1 ∷ []) 0
+    ∷ asked (pos 20) (0 ∷ 1 ∷ []) 0
+    ∷ asked (pos 21) (0 ∷ 1 ∷ []) 8
     -- the first bin of a run of equal bins
-    ∷ line 0 (3 ∷ 0 ∷ 0 ∷ 3 ∷ []) (0 ∷ 1 ∷ 3 ∷ [])
+    ∷ line (pos 0) (3 ∷ 0 ∷ 0 ∷ 3 ∷ []) (0 ∷ 1 ∷ 3 ∷ [])
     -- the higher neighbours of a run are the bins past its ends
-    ∷ line 0 (3 ∷ 0 ∷ 0 ∷ 3 ∷ 2 ∷ 2 ∷ []) (0 ∷ 1 ∷ 5 ∷ [])
+    ∷ line (pos 0) (3 ∷ 0 ∷ 0 ∷ 3 ∷ 2 ∷ 2 ∷ []) (0 ∷ 1 ∷ 5 ∷ [])
     -- the first highest bin of a plateau is the peak
-    ∷ modes 0 (4 ∷ 0 ∷ 4 ∷ 4 ∷ []) (mode 0 0 1 ∷ mode 1 2 3 ∷ [])
+    ∷ modes (pos 0) (4 ∷ 0 ∷ 4 ∷ 4 ∷ []) (mode 0 0 1 ∷ mode 1 2 3 ∷ [])
     -- a kept peak need not be the highest bin
-    ∷ modes 0 (93 ∷ 71 ∷ 94 ∷ 71 ∷ []) (mode 0 0 3 ∷ [])
+    ∷ modes (pos 0) (93 ∷ 71 ∷ 94 ∷ 71 ∷ []) (mode 0 0 3 ∷ [])
     -- the smaller of the two costs counts, and it may be the rise's or the fall's
-    ∷ modes 0 (1 ∷ 0 ∷ 4 ∷ []) (mode 0 2 2 ∷ [])
-    ∷ modes 0 (4 ∷ 0 ∷ 1 ∷ []) (mode 0 0 2 ∷ [])
+    ∷ modes (pos 0) (1 ∷ 0 ∷ 4 ∷ []) (mode 0 2 2 ∷ [])
+    ∷ modes (pos 0) (4 ∷ 0 ∷ 1 ∷ []) (mode 0 0 2 ∷ [])
     -- a run that costs exactly 0 is not joined
-    ∷ line 14 (294 ∷ 164 ∷ 1442 ∷ []) (0 ∷ 1 ∷ 2 ∷ [])
+    ∷ line (pos 14) (294 ∷ 164 ∷ 1442 ∷ []) (0 ∷ 1 ∷ 2 ∷ [])
     -- of equal costs, the fall
-    ∷ line 0 (0 ∷ 5 ∷ 2 ∷ 5 ∷ 0 ∷ 4 ∷ []) (0 ∷ 5 ∷ [])
+    ∷ line (pos 0) (0 ∷ 5 ∷ 2 ∷ 5 ∷ 0 ∷ 4 ∷ []) (0 ∷ 5 ∷ [])
     -- of equal costs, the leftmost run
-    ∷ line 0 (5 ∷ 0 ∷ 1 ∷ 0 ∷ 5 ∷ []) (0 ∷ 3 ∷ 4 ∷ [])
+    ∷ line (pos 0) (5 ∷ 0 ∷ 1 ∷ 0 ∷ 5 ∷ []) (0 ∷ 3 ∷ 4 ∷ [])
     -- the lowest cost, not the first one below 0
-    ∷ line 0 (5 ∷ 0 ∷ 3 ∷ 2 ∷ 5 ∷ []) (0 ∷ 1 ∷ 4 ∷ [])
+    ∷ line (pos 0) (5 ∷ 0 ∷ 3 ∷ 2 ∷ 5 ∷ []) (0 ∷ 1 ∷ 4 ∷ [])
     -- a longer run may be joined where no pair can
-    ∷ modes 0 (0 ∷ 5 ∷ 0 ∷ 5 ∷ 0 ∷ 5 ∷ 0 ∷ []) (mode 0 1 6 ∷ [])
+    ∷ modes (pos 0) (0 ∷ 5 ∷ 0 ∷ 5 ∷ 0 ∷ 5 ∷ 0 ∷ []) (mode 0 1 6 ∷ [])
     -- after a join the search starts again with runs of 2
-    ∷ line 0 (5 ∷ 0 ∷ 5 ∷ 0 ∷ 5 ∷ 0 ∷ 5 ∷ []) (0 ∷ 6 ∷ [])
+    ∷ line (pos 0) (5 ∷ 0 ∷ 5 ∷ 0 ∷ 5 ∷ 0 ∷ 5 ∷ []) (0 ∷ 6 ∷ [])
     -- the last bin of a line lies in its last mode, and no bin after it
-    ∷ inLine 0 (1 ∷ 0 ∷ 4 ∷ []) 0 2 true
-    ∷ inLine 0 (1 ∷ 0 ∷ 4 ∷ []) 0 3 false
+    ∷ inLine (pos 0) (1 ∷ 0 ∷ 4 ∷ []) 0 2 true
+    ∷ inLine (pos 0) (1 ∷ 0 ∷ 4 ∷ []) 0 3 false
     -- a ring opened away from bin 0, at the first of equal lowest bins; separators by its own numbers, modes from the opening
-    ∷ ring 0 (9 ∷ 1 ∷ 9 ∷ 0 ∷ 9 ∷ 0 ∷ []) (3 ∷ 5 ∷ 1 ∷ []) (1 ∷ 2 ∷ 2 ∷ 0 ∷ 0 ∷ 1 ∷ [])
+    ∷ ring (pos 0) (9 ∷ 1 ∷ 9 ∷ 0 ∷ 9 ∷ 0 ∷ []) (3 ∷ 5 ∷ 1 ∷ []) (1 ∷ 2 ∷ 2 ∷ 0 ∷ 0 ∷ 1 ∷ [])
     -- a flat minimum across the seam
-    ∷ ring 0 (0 ∷ 0 ∷ 9 ∷ 1 ∷ 9 ∷ 0 ∷ []) (0 ∷ 3 ∷ []) (0 ∷ 0 ∷ 0 ∷ 1 ∷ 1 ∷ 1 ∷ [])
+    ∷ ring (pos 0) (0 ∷ 0 ∷ 9 ∷ 1 ∷ 9 ∷ 0 ∷ []) (0 ∷ 3 ∷ []) (0 ∷ 0 ∷ 0 ∷ 1 ∷ 1 ∷ 1 ∷ [])
     ∷ []
 
 -- proved in proofs/Tables

@@ -3,7 +3,7 @@ use Prim.Native.Nat.{ℕ}
 use mathlib.Core.Path.{_≡_}
 use mathlib.Core.Bool.{Bool}
 use mathlib.Core.List.{List, map}
-use lib.IntN.{ℤ}
+use lib.IntN.{ℤ, pos, negℤ}
 use lib.ListN.{length}
 use Rattle.lists.specs.Lists.{numbers, firstThat, maybe}
 use Rattle.pixel.specs.declared.Pixel.{Pixel}
@@ -18,6 +18,7 @@ use Rattle.verdict.specs.Test.{Closeness, verdictOf, fittedMass}
 use Rattle.segmentation.specs.Segments.{Segment, inMode}
 use Rattle.segmentation.specs.Joining.{lineModes, lineSeparators}
 use Rattle.segmentation.specs.Ring.{ringSeparators, inRingMode}
+use Rattle.kistrovu.specs.Grounds.{verdictNumber}
 
 pub data Sample : Type 0 where
   -- R, G, B; then Q, or the four measures
@@ -29,6 +30,8 @@ pub data Sample : Type 0 where
   -- the fitted mass A/B of the part from bin i to bin j
   mass : Direction → (bins : List ℕ) → (i j a b : ℕ) → Sample
   verdict : Closeness → Direction → (bins : List ℕ) → (cost : ℤ) (rejected : Bool) → Sample
+  -- the number of a verdict call
+  asked : Closeness → (bins : List ℕ) → (number : ℕ) → Sample
   -- the separators of a line; its modes, each with its peak
   line : Closeness → (bins : List ℕ) → (separators : List ℕ) → Sample
   modes : Closeness → (bins : List ℕ) → List Segment → Sample
@@ -36,6 +39,10 @@ pub data Sample : Type 0 where
   inLine : Closeness → (bins : List ℕ) → (m b : ℕ) → Bool → Sample
   -- the separators of a ring from its opening on, and each bin's mode
   ring : Closeness → (bins : List ℕ) → (separators : List ℕ) → (modes : List ℕ) → Sample
+
+-- minus n, for a closeness or a cost
+abbrev pub minus : ℕ → ℤ
+minus n = negℤ (pos n)
 
 abbrev pub rgb : ℕ → ℕ → ℕ → Pixel
 rgb r g b = record { red = r; green = g; blue = b }
@@ -71,6 +78,7 @@ computed (logarithm x units) = number (lg x)
 computed (fit w h bs) = fractions (fitted w h)
 computed (mass w h i j a b) = fraction (fittedMass h (blocks w h) i j)
 computed (verdict e w h c is) = judged (verdictOf e w h)
+computed (asked e h n) = number (verdictNumber e h)
 computed (line e h separators) = places (lineSeparators e h)
 computed (modes e h ss) = segments (lineModes e h)
 computed (inLine e h m b is) = truth (inMode (lineModes e h) m b)
@@ -86,6 +94,7 @@ stated (logarithm x units) = number units
 stated (fit w h bs) = fractions bs
 stated (mass w h i j a b) = fraction (record { num = a; den = b })
 stated (verdict e w h c is) = judged (record { cost = c; rejected = is })
+stated (asked e h n) = number n
 stated (line e h separators) = places separators
 stated (modes e h ss) = segments ss
 stated (inLine e h m b is) = truth is

@@ -1,6 +1,7 @@
 -- The samples that every engine must reproduce, as one table. proofs/Tables has one proof of all its rows. Assumes nothing.
 use mathlib.Core.Bool.{true, false}
 use mathlib.Core.List.{List, [], _∷_}
+use lib.IntN.{pos}
 use Rattle.pooling.specs.Blocks.{increasing}
 use Rattle.samples.specs.Rows.{Sample, chroma, measures, fit, line, block, AllHold}
 
@@ -21,10 +22,10 @@ starred =
     ∷ fit increasing (3 ∷ 1 ∷ 2 ∷ []) (block 6 3 ∷ block 6 3 ∷ block 6 3 ∷ [])
     ∷ fit increasing (1 ∷ 3 ∷ 2 ∷ []) (block 1 1 ∷ block 5 2 ∷ block 5 2 ∷ [])
     -- S7: too few counts to keep two modes apart; enough of them up to closeness 13, and not at 14
-    ∷ line 0 (0 ∷ 1 ∷ 0 ∷ 1 ∷ 0 ∷ []) (0 ∷ 4 ∷ [])
-    ∷ line 0 (0 ∷ 20 ∷ 0 ∷ 20 ∷ 0 ∷ []) (0 ∷ 2 ∷ 4 ∷ [])
-    ∷ line 13 (0 ∷ 20 ∷ 0 ∷ 20 ∷ 0 ∷ []) (0 ∷ 2 ∷ 4 ∷ [])
-    ∷ line 14 (0 ∷ 20 ∷ 0 ∷ 20 ∷ 0 ∷ []) (0 ∷ 4 ∷ [])
+    ∷ line (pos 0) (0 ∷ 1 ∷ 0 ∷ 1 ∷ 0 ∷ []) (0 ∷ 4 ∷ [])
+    ∷ line (pos 0) (0 ∷ 20 ∷ 0 ∷ 20 ∷ 0 ∷ []) (0 ∷ 2 ∷ 4 ∷ [])
+    ∷ line (pos 13) (0 ∷ 20 ∷ 0 ∷ 20 ∷ 0 ∷ []) (0 ∷ 2 ∷ 4 ∷ [])
+    ∷ line (pos 14) (0 ∷ 20 ∷ 0 ∷ 20 ∷ 0 ∷ []) (0 ∷ 4 ∷ [])
     ∷ []
 
 -- proved in proofs/Tables

@@ -84,12 +84,16 @@ fn fit(h: &[u32], rising: bool) {
     text(b"\n");
 }
 
-fn verdict(h: &[u32], rising: bool, closeness: u32) {
+fn at(closeness: i32) {
+    text(b", closeness");
+    signed(closeness as i64);
+}
+
+fn verdict(h: &[u32], rising: bool, closeness: i32) {
     let v = kistrovu_verdict(h, rising, closeness);
     text(b" bins, increasing");
     flag(rising);
-    text(b", closeness");
-    number(closeness as u64);
+    at(closeness);
     text(b": number");
     number(v.number as u64);
     text(b", cost");
@@ -99,7 +103,7 @@ fn verdict(h: &[u32], rising: bool, closeness: u32) {
     text(b"\n");
 }
 
-fn named(h: &[u32], rising: bool, closeness: u32) {
+fn named(h: &[u32], rising: bool, closeness: i32) {
     text(b"verdict of");
     counts(h);
     text(b":");
@@ -107,7 +111,7 @@ fn named(h: &[u32], rising: bool, closeness: u32) {
     verdict(h, rising, closeness);
 }
 
-fn unnamed(what: &[u8], h: &[u32], rising: bool, closeness: u32) {
+fn unnamed(what: &[u8], h: &[u32], rising: bool, closeness: i32) {
     text(b"verdict of ");
     text(what);
     text(b":");
@@ -116,9 +120,8 @@ fn unnamed(what: &[u8], h: &[u32], rising: bool, closeness: u32) {
 }
 
 // The answer of a modes call, and the first places of the list that was lent.
-fn modes(m: ModesAnswer, closeness: u32, list: &[u32]) {
-    text(b", closeness");
-    number(closeness as u64);
+fn modes(m: ModesAnswer, closeness: i32, list: &[u32]) {
+    at(closeness);
     text(b": number");
     number(m.number as u64);
     text(b", separators");
@@ -129,7 +132,7 @@ fn modes(m: ModesAnswer, closeness: u32, list: &[u32]) {
 }
 
 // The list is lent with 99 in each of its 8 places; the places past the last separator keep it.
-fn line(h: &[u32], closeness: u32) {
+fn line(h: &[u32], closeness: i32) {
     let mut list = [99u32; 8];
     let m = kistrovu_line_modes(h, closeness, &mut list);
     text(b"line");
@@ -137,7 +140,7 @@ fn line(h: &[u32], closeness: u32) {
     modes(m, closeness, &list);
 }
 
-fn ring(h: &[u32], closeness: u32) {
+fn ring(h: &[u32], closeness: i32) {
     let mut list = [99u32; 8];
     let m = kistrovu_ring_modes(h, closeness, &mut list);
     text(b"ring");
@@ -182,6 +185,10 @@ fn main() {
     named(&[0, 20, 0, 20, 0], true, 0);
     named(&[0, 20, 0, 20, 0], false, 20);
     named(&[0, 20, 0, 20, 0], true, 21);
+    named(&[1, 0, 0], true, -1);
+    named(&[0, 1], true, -10);
+    named(&[1, 0], true, -10);
+    named(&[0, 1], true, -11);
     unnamed(b"zeros", &[0u32; 256], true, 0);
     unnamed(b"zeros", &[0u32; 257], true, 0);
     unnamed(b"one bin", &[5], true, 0);
