@@ -9,13 +9,14 @@ use crate::{lines, pooling, rings, swatches};
 pub const MOST_BINS: usize = 256;
 pub const LEAST_BINS: usize = 2;
 pub const MOST_PIXELS: u128 = 65_536;
-pub const MOST_CLOSENESS: u32 = 20;
+pub const LEAST_CLOSENESS: i32 = -10;
+pub const MOST_CLOSENESS: i32 = 20;
 /// The most entries that a card may hold.
 pub const MOST_ENTRIES: usize = 255;
 /// The most bytes printed: a line of 3 fields of 6 columns, and a line of 8 for each entry.
 pub const MOST_PRINTED: usize = 19 + 49 * MOST_ENTRIES;
 /// The closeness at which the card program works.
-pub const PROGRAM_CLOSENESS: u32 = 0;
+pub const PROGRAM_CLOSENESS: i32 = 0;
 
 #[derive(Clone, Copy, Debug, PartialEq, Eq)]
 pub struct MeasuresAnswer {
@@ -82,7 +83,7 @@ pub fn fit(histogram: &[u32], rising: bool) -> FitAnswer {
     answer
 }
 
-pub fn verdict(histogram: &[u32], rising: bool, closeness: u32) -> VerdictAnswer {
+pub fn verdict(histogram: &[u32], rising: bool, closeness: i32) -> VerdictAnswer {
     let number = first_ground(histogram, Some(closeness), None);
     let verdict = if number == 0 {
         test::verdict(&widened(histogram), rising, closeness)
@@ -95,20 +96,20 @@ pub fn verdict(histogram: &[u32], rising: bool, closeness: u32) -> VerdictAnswer
     VerdictAnswer { number, verdict }
 }
 
-pub fn line_modes(histogram: &[u32], closeness: u32, list: &mut [u32]) -> ModesAnswer {
+pub fn line_modes(histogram: &[u32], closeness: i32, list: &mut [u32]) -> ModesAnswer {
     modes(histogram, closeness, list, lines::separators)
 }
 
 /// The list's order is open; this one is from the opening on.
-pub fn ring_modes(histogram: &[u32], closeness: u32, list: &mut [u32]) -> ModesAnswer {
+pub fn ring_modes(histogram: &[u32], closeness: i32, list: &mut [u32]) -> ModesAnswer {
     modes(histogram, closeness, list, rings::separators)
 }
 
 fn modes(
     histogram: &[u32],
-    closeness: u32,
+    closeness: i32,
     list: &mut [u32],
-    separators: fn(&[u64], u32) -> Vec<usize>,
+    separators: fn(&[u64], i32) -> Vec<usize>,
 ) -> ModesAnswer {
     let number = first_ground(histogram, Some(closeness), Some(list.len()));
     if number != 0 {
@@ -127,7 +128,7 @@ fn modes(
     }
 }
 
-pub fn card(bytes: &[u8], closeness: u32, labels: &mut [u8]) -> CardAnswer {
+pub fn card(bytes: &[u8], closeness: i32, labels: &mut [u8]) -> CardAnswer {
     let mut answer = CardAnswer {
         number: first_card_ground(bytes, closeness, labels.len()),
         len: 0,
@@ -197,27 +198,32 @@ pub fn program(text: &[u8]) -> PrintedAnswer {
 }
 
 /// The number of the first ground before 11 that holds, 0 when none does.
-fn first_card_ground(bytes: &[u8], closeness: u32, places: usize) -> u32 {
+fn first_card_ground(bytes: &[u8], closeness: i32, places: usize) -> u32 {
     let pixels = bytes.len() / 3;
     first_of(&[
         (4, bytes.is_empty() || !bytes.len().is_multiple_of(3)),
         (5, pixels as u128 > MOST_PIXELS),
-        (8, closeness > MOST_CLOSENESS),
+        (8, !is_served(closeness)),
         (9, places != pixels),
     ])
 }
 
 /// The number of the first ground that holds, 0 when none does. A fit has no closeness, and only modes are listed in
 /// places that were lent.
-pub fn first_ground(histogram: &[u32], closeness: Option<u32>, places: Option<usize>) -> u32 {
+pub fn first_ground(histogram: &[u32], closeness: Option<i32>, places: Option<usize>) -> u32 {
     let bins = histogram.len();
     let sum: u128 = histogram.iter().map(|&count| u128::from(count)).sum();
     first_of(&[
         (6, !(LEAST_BINS..=MOST_BINS).contains(&bins)),
         (7, sum > MOST_PIXELS),
-        (8, closeness.is_some_and(|e| e > MOST_CLOSENESS)),
+        (8, closeness.is_some_and(|e| !is_served(e))),
         (10, places.is_some_and(|places| places < bins)),
     ])
+}
+
+/// Whether there is an answer at this closeness, taken with its sign.
+fn is_served(closeness: i32) -> bool {
+    (LEAST_CLOSENESS..=MOST_CLOSENESS).contains(&closeness)
 }
 
 fn first_of(grounds: &[(u32, bool)]) -> u32 {

@@ -41,7 +41,7 @@ struct Level {
     bins: usize,
     bin: fn(&Measures) -> u8,
     /// Where the modes of a histogram start, by number.
-    starts: fn(&[u64], u32) -> Vec<usize>,
+    starts: fn(&[u64], i32) -> Vec<usize>,
 }
 
 const HUE: Level = Level {
@@ -63,12 +63,12 @@ const INTENSITY: Level = Level {
     starts: line_starts,
 };
 
-fn line_starts(counts: &[u64], closeness: u32) -> Vec<usize> {
+fn line_starts(counts: &[u64], closeness: i32) -> Vec<usize> {
     let modes = lines::modes(counts, closeness);
     modes.iter().map(|mode| mode.start).collect()
 }
 
-pub fn card(pixels: &[Pixel], closeness: u32) -> Card {
+pub fn card(pixels: &[Pixel], closeness: i32) -> Card {
     let keys = keys(pixels, closeness);
     let all: Vec<Key> = BTreeSet::from_iter(&keys).into_iter().copied().collect();
     let number = |key: &Key| all.binary_search(key).expect("it is one of them");
@@ -86,7 +86,7 @@ pub fn card(pixels: &[Pixel], closeness: u32) -> Card {
 
 /// The key of each pixel: greys divided by intensity; colours by hue, each of those sets by saturation, each of those
 /// by intensity.
-fn keys(pixels: &[Pixel], closeness: u32) -> Vec<Key> {
+fn keys(pixels: &[Pixel], closeness: i32) -> Vec<Key> {
     let measured: Vec<Measures> = pixels.iter().map(|&[r, g, b]| measures(r, g, b)).collect();
     let kind = |measures: &Measures| if measures.grey { GREY } else { COLOUR };
     let mut keys: Vec<Key> = measured.iter().map(|m| [kind(m), 0, 0, 0]).collect();
@@ -112,7 +112,7 @@ fn sets(keys: &[Key]) -> BTreeMap<Key, Vec<usize>> {
 /// Puts the number of its mode into the key of each member, from the histogram of the members alone.
 fn divide(
     level: &Level,
-    closeness: u32,
+    closeness: i32,
     measured: &[Measures],
     members: &[usize],
     keys: &mut [Key],
@@ -129,7 +129,8 @@ fn divide(
         met[mode] = true;
         keys[place][level.place] = mode;
     }
-    // So that the keys that occur are all the entries there are.
+    // So that the keys that occur are all the entries there are. It holds where nothing is joined too: beside each valley
+    // a first segment has a higher bin of its own.
     assert!(met.iter().all(|&met| met), "a mode without a pixel");
 }
 

@@ -20,13 +20,13 @@ pub struct Join {
 }
 
 /// Where the modes start, and the last bin.
-pub fn separators(counts: &[u64], closeness: u32) -> Vec<usize> {
+pub fn separators(counts: &[u64], closeness: i32) -> Vec<usize> {
     let starts = modes(counts, closeness).into_iter().map(|mode| mode.start);
     starts.chain([counts.len() - 1]).collect()
 }
 
 /// The modes of a line of two bins or more, from left to right.
-pub fn modes(counts: &[u64], closeness: u32) -> Vec<Segment> {
+pub fn modes(counts: &[u64], closeness: i32) -> Vec<Segment> {
     let mut segments = first_segments(counts);
     while let Some(left) = next_joined(counts, closeness, &segments) {
         segments = left;
@@ -70,7 +70,7 @@ fn first_highest(counts: &[u64], start: usize, end: usize) -> usize {
 
 /// The segments after the next join: of the shortest length that has a run to join, the cheapest run, leftmost of
 /// equals.
-fn next_joined(counts: &[u64], closeness: u32, segments: &[Segment]) -> Option<Vec<Segment>> {
+fn next_joined(counts: &[u64], closeness: i32, segments: &[Segment]) -> Option<Vec<Segment>> {
     for len in 2..=segments.len() {
         let joins = segments
             .windows(len)
@@ -85,8 +85,10 @@ fn next_joined(counts: &[u64], closeness: u32, segments: &[Segment]) -> Option<V
     None
 }
 
-/// A run of two segments or more: its stretches have two bins or more. The fall counts when both cost the same.
-pub fn join(counts: &[u64], closeness: u32, run: &[Segment]) -> Join {
+/// A run of two segments or more. Its rise and its fall both go through a valley between two of its segments, so each of
+/// them has a step against its fit, and a cost of 0 or more always means a rejection here. The fall counts when both
+/// cost the same.
+pub fn join(counts: &[u64], closeness: i32, run: &[Segment]) -> Join {
     let (first, last) = (run[0], run[run.len() - 1]);
     let rise = verdict(&counts[first.start..=last.peak], true, closeness).cost;
     let fall = verdict(&counts[first.peak..=last.end], false, closeness).cost;
@@ -104,6 +106,10 @@ pub fn join(counts: &[u64], closeness: u32, run: &[Segment]) -> Join {
 #[cfg(test)]
 mod tests {
     use super::*;
+    use crate::test::has_step_against;
+
+    /// Where the bar of each small line is below 0, of some of them, and of none.
+    const CLOSENESSES: [i32; 4] = [-10, -3, 0, 4];
 
     /// Every line of 2 to 6 bins with counts of 0, 1, 5 and 20, and of 7 bins with counts of 0, 4 and 9.
     fn small_lines() -> Vec<Vec<u64>> {
@@ -180,6 +186,23 @@ mod tests {
         assert_eq!(join(&counts, 0, &run).left, segment(0, 1, 4));
     }
 
+    /// So it makes no difference to a join whether its cost is asked for or its rejection.
+    #[test]
+    fn both_stretches_of_a_run_have_a_step_against_their_fit() {
+        for counts in small_lines() {
+            let segments = first_segments(&counts);
+            for len in 2..=segments.len() {
+                for run in segments.windows(len) {
+                    let (first, last) = (run[0], run[len - 1]);
+                    let rise = &counts[first.start..=last.peak];
+                    let fall = &counts[first.peak..=last.end];
+                    assert!(has_step_against(rise, true), "{counts:?}");
+                    assert!(has_step_against(fall, false), "{counts:?}");
+                }
+            }
+        }
+    }
+
     #[test]
     fn the_leftmost_of_equals_is_joined() {
         let counts = [0, 1, 0, 1, 0, 1, 0];
@@ -194,7 +217,7 @@ mod tests {
     #[test]
     fn no_run_of_modes_can_still_be_joined() {
         for counts in small_lines() {
-            for closeness in [0, 4] {
+            for closeness in CLOSENESSES {
                 let modes = modes(&counts, closeness);
                 for first in 0..modes.len() {
                     for last in first + 1..modes.len() {
@@ -212,7 +235,7 @@ mod tests {
     #[test]
     fn each_mode_is_a_single_hump() {
         for counts in small_lines() {
-            for closeness in [0, 4] {
+            for closeness in CLOSENESSES {
                 for mode in modes(&counts, closeness) {
                     assert!(mode.start <= mode.peak && mode.peak <= mode.end);
                     let rise = verdict(&counts[mode.start..=mode.peak], true, closeness);

@@ -3,7 +3,7 @@
 use crate::lines;
 
 /// The separators as the ring's own bin numbers, from the opening on.
-pub fn separators(counts: &[u64], closeness: u32) -> Vec<usize> {
+pub fn separators(counts: &[u64], closeness: i32) -> Vec<usize> {
     let opening = opening(counts);
     lines::modes(&opened(counts), closeness)
         .into_iter()
@@ -49,6 +49,7 @@ mod tests {
         assert_eq!(separators(&[0, 20, 0, 20], 14), [0]);
         assert_eq!(separators(&[20, 0, 20, 0], 14), [1]);
         assert_eq!(separators(&[0, 1, 0, 1], 0), [0]);
+        assert_eq!(separators(&[0, 1, 0, 1], -10), [0, 2]);
     }
 
     #[test]
@@ -111,10 +112,12 @@ mod tests {
     fn no_run_of_modes_can_still_be_joined() {
         for counts in small_rings() {
             let line = opened(&counts);
-            let modes = lines::modes(&line, 0);
-            for len in 2..=modes.len() {
-                for run in modes.windows(len) {
-                    assert!(lines::join(&line, 0, run).cost >= 0, "{counts:?}");
+            for closeness in [-3, 0] {
+                let modes = lines::modes(&line, closeness);
+                for len in 2..=modes.len() {
+                    for run in modes.windows(len) {
+                        assert!(lines::join(&line, closeness, run).cost >= 0, "{counts:?}");
+                    }
                 }
             }
         }

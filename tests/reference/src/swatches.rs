@@ -1,6 +1,7 @@
 //! The card program's texts: a swatch that is read, a card that is printed.
 
 use crate::cards::{Entry, Pixel};
+use std::fmt::Display;
 
 /// The most pixels of a swatch.
 pub const MOST_SWATCH_PIXELS: u64 = 16_384;
@@ -49,22 +50,23 @@ fn fields(line: &[u8], columns: usize) -> Option<Vec<u64>> {
 /// The number that, printed in this many columns, gives exactly this text.
 fn field(text: &[u8]) -> Option<u64> {
     let text = std::str::from_utf8(text).ok()?;
-    let number = text.trim_start().parse().ok()?;
+    // Read without a sign, which no field of a swatch has.
+    let number: u64 = text.trim_start().parse().ok()?;
     (printed_field(number, text.len()) == text).then_some(number)
 }
 
 /// The text of a swatch.
 pub fn written(width: usize, height: usize, pixels: &[Pixel]) -> Vec<u8> {
-    let mut text = printed_line(&[width as u64, height as u64], HEADER_COLUMNS);
+    let mut text = printed_line(&[width as i64, height as i64], HEADER_COLUMNS);
     for pixel in pixels {
-        text += &printed_line(&pixel.map(u64::from), PIXEL_COLUMNS);
+        text += &printed_line(&pixel.map(i64::from), PIXEL_COLUMNS);
     }
     text.into_bytes()
 }
 
 /// What is printed for a card.
-pub fn printed_card(entries: &[Entry], pixels: usize, closeness: u32) -> String {
-    let head = [entries.len() as u64, pixels as u64, u64::from(closeness)];
+pub fn printed_card(entries: &[Entry], pixels: usize, closeness: i32) -> String {
+    let head = [entries.len() as i64, pixels as i64, i64::from(closeness)];
     let mut text = printed_line(&head, PRINTED_COLUMNS);
     for entry in entries {
         let Entry {
@@ -77,8 +79,8 @@ pub fn printed_card(entries: &[Entry], pixels: usize, closeness: u32) -> String 
             blue,
             count,
         } = *entry;
-        let bytes = [kind, hue, saturation, intensity, red, green, blue].map(u64::from);
-        let figures = [bytes.as_slice(), &[u64::from(count)]].concat();
+        let bytes = [kind, hue, saturation, intensity, red, green, blue].map(i64::from);
+        let figures = [bytes.as_slice(), &[i64::from(count)]].concat();
         text += &printed_line(&figures, PRINTED_COLUMNS);
     }
     text
@@ -86,11 +88,11 @@ pub fn printed_card(entries: &[Entry], pixels: usize, closeness: u32) -> String 
 
 /// What is printed for a swatch that is turned down: of a number that is too long for its columns the last digits.
 pub fn printed_number(number: u32) -> String {
-    let line = printed_line(&[u64::from(number)], PRINTED_COLUMNS);
+    let line = printed_line(&[i64::from(number)], PRINTED_COLUMNS);
     line[line.len() - PRINTED_COLUMNS - 1..].to_string()
 }
 
-fn printed_line(figures: &[u64], columns: usize) -> String {
+fn printed_line(figures: &[i64], columns: usize) -> String {
     let fields = figures
         .iter()
         .map(|&figure| printed_field(figure, columns))
@@ -98,7 +100,7 @@ fn printed_line(figures: &[u64], columns: usize) -> String {
     fields + "\n"
 }
 
-fn printed_field(figure: u64, columns: usize) -> String {
+fn printed_field(figure: impl Display, columns: usize) -> String {
     format!("{figure:>columns$}")
 }
 

@@ -3,6 +3,7 @@
 use crate::logarithm::{lg, UNIT};
 use crate::pooling::{fit, Block};
 
+/// A stretch that is not rejected can cost 0 or more: the cost decides on joins, the rejection on humps.
 #[derive(Clone, Copy, Debug, PartialEq, Eq)]
 pub struct Verdict {
     pub cost: i64,
@@ -11,18 +12,30 @@ pub struct Verdict {
 
 /// The verdict of a stretch of 257 bins and a sum of 98,304 at most: those of an opened ring, whose lowest bin counts
 /// twice.
-pub fn verdict(counts: &[u64], rising: bool, closeness: u32) -> Verdict {
+pub fn verdict(counts: &[u64], rising: bool, closeness: i32) -> Verdict {
     let cost = largest_weight(counts, rising) - bar(counts.len(), closeness);
     Verdict {
         cost,
-        rejected: counts.len() > 1 && cost >= 0,
+        rejected: has_step_against(counts, rising) && cost >= 0,
     }
 }
 
-/// 01's Θ.
-pub fn bar(bins: usize, closeness: u32) -> i64 {
+/// Whether some bin is followed by a lower one in a rise, or by a higher one in a fall. Without such a step the fit is
+/// the stretch itself, so there is nothing to reject, even below a bar of 0. One bin has no steps at all.
+pub fn has_step_against(counts: &[u64], rising: bool) -> bool {
+    counts.windows(2).any(|step| {
+        if rising {
+            step[1] < step[0]
+        } else {
+            step[1] > step[0]
+        }
+    })
+}
+
+/// 01's Θ, which is 0 or less for a short stretch at a closeness far enough below 0.
+pub fn bar(bins: usize, closeness: i32) -> i64 {
     let bins = bins as u64;
-    (lg(bins * (bins + 1) / 2) + u64::from(closeness) * UNIT) as i64
+    lg(bins * (bins + 1) / 2) as i64 + i64::from(closeness) * UNIT as i64
 }
 
 /// The largest W over all parts.
@@ -197,14 +210,23 @@ mod tests {
     }
 
     #[test]
+    fn a_bar_goes_below_0_with_the_closeness() {
+        let lg = |x| lg(x) as i64;
+        assert_eq!(bar(3, 20), lg(6) + 20 * UNIT as i64);
+        assert_eq!(bar(3, 0), lg(6));
+        assert_eq!(bar(3, -2), lg(6) - 2 * UNIT as i64);
+        assert_eq!(bar(1, -10), -10 * UNIT as i64);
+    }
+
+    #[test]
     fn one_bin_is_never_rejected() {
-        assert_eq!(
-            verdict(&[7], true, 0),
-            Verdict {
-                cost: 0,
-                rejected: false
-            }
-        );
+        for (closeness, cost) in [(0, 0), (-10, 10 * UNIT as i64)] {
+            let accepted = Verdict {
+                cost,
+                rejected: false,
+            };
+            assert_eq!(verdict(&[7], true, closeness), accepted);
+        }
     }
 
     #[test]

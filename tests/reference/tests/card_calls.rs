@@ -14,7 +14,7 @@ fn turned_down(number: u32) -> CardAnswer {
 }
 
 /// The number, with a label for each whole pixel.
-fn number(bytes: &[u8], closeness: u32) -> u32 {
+fn number(bytes: &[u8], closeness: i32) -> u32 {
     card(bytes, closeness, &mut vec![0; bytes.len() / 3]).number
 }
 
@@ -59,8 +59,17 @@ fn pixels_are_65_536_at_most() {
 }
 
 #[test]
-fn closeness_is_20_at_most() {
-    for (closeness, expected) in [(0, 0), (20, 0), (21, 8), (u32::MAX, 8)] {
+fn closeness_is_minus_10_to_20() {
+    for (closeness, expected) in [
+        (i32::MIN, 8),
+        (-21, 8),
+        (-11, 8),
+        (-10, 0),
+        (0, 0),
+        (20, 0),
+        (21, 8),
+        (i32::MAX, 8),
+    ] {
         assert_eq!(number(&BLACK_AND_RED, closeness), expected);
     }
 }
@@ -76,13 +85,19 @@ fn labels_are_as_many_as_pixels() {
 #[test]
 fn the_first_ground_counts() {
     let mut labels = [7, 8, 9];
-    assert_eq!(card(&[], 21, &mut labels), turned_down(4));
-    assert_eq!(card(&[1; 4], 21, &mut labels), turned_down(4));
     let many = vec![1; 3 * 65_537];
-    assert_eq!(card(&many[1..], 21, &mut labels), turned_down(4));
-    assert_eq!(card(&many, 21, &mut labels), turned_down(5));
-    assert_eq!(card(&BLACK_AND_RED, 21, &mut labels), turned_down(8));
-    assert_eq!(card(&BLACK_AND_RED, 20, &mut labels), turned_down(9));
+    for closeness in [-11, 21] {
+        let mut call = |bytes: &[u8]| card(bytes, closeness, &mut labels);
+        assert_eq!(call(&[]), turned_down(4));
+        assert_eq!(call(&[1; 4]), turned_down(4));
+        assert_eq!(call(&many[1..]), turned_down(4));
+        assert_eq!(call(&many), turned_down(5));
+        assert_eq!(call(&BLACK_AND_RED), turned_down(8));
+    }
+    for closeness in [-10, 20] {
+        let answer = card(&BLACK_AND_RED, closeness, &mut labels);
+        assert_eq!(answer, turned_down(9));
+    }
     assert_eq!(labels, [7, 8, 9]);
 }
 
@@ -101,6 +116,17 @@ fn black_beside_red_is_printed_as_given() {
         \x20    1     0     0     0   255     0     0     1\n";
     assert_eq!(printed(print_card(text)), (0, expected.to_string()));
     assert_eq!(program(text), print_card(text));
+}
+
+/// Black beside white is two entries at the least closeness and one at 0, which the text call works at and prints.
+#[test]
+fn the_text_call_works_at_closeness_0() {
+    let looser = card(&[0, 0, 0, 255, 255, 255], LEAST_CLOSENESS, &mut [0; 2]);
+    assert_eq!((looser.number, looser.len), (0, 2));
+    let text = b"     2     1\n   0   0   0\n 255 255 255\n";
+    let expected = "     1     2     0\n\
+        \x20    0     0     0     0   128   128   128     2\n";
+    assert_eq!(printed(print_card(text)), (0, expected.to_string()));
 }
 
 #[test]

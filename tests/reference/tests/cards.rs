@@ -1,5 +1,6 @@
 //! Cards of small swatches, and what holds for every card.
 
+use reference::calls::LEAST_CLOSENESS;
 use reference::cards::{card, Entry, Pixel};
 use reference::measures::measures;
 
@@ -84,6 +85,27 @@ fn two_greys_alone_are_one_entry() {
     assert_eq!(card.labels, [0, 0]);
 }
 
+/// At the least closeness the same two pixels are enough.
+#[test]
+fn two_greys_alone_are_two_entries_at_the_least_closeness() {
+    let card = card(&[WHITE, BLACK], LEAST_CLOSENESS);
+    assert_eq!(
+        card.entries,
+        [
+            entry_of([0, 0, 0, 0], BLACK, 1),
+            entry_of([0, 0, 0, 1], WHITE, 1)
+        ]
+    );
+    assert_eq!(card.labels, [1, 0]);
+}
+
+#[test]
+fn a_cloth_has_more_entries_at_the_least_closeness() {
+    let pixels = mixed(3000);
+    let entries = |closeness| card(&pixels, closeness).entries.len();
+    assert!(entries(LEAST_CLOSENESS) > entries(0));
+}
+
 /// Greens at hue bin 5, blues at 25, reds at 45: the ring opens at bin 0, the first of the empty ones.
 #[test]
 fn hues_number_from_the_opening() {
@@ -158,7 +180,7 @@ fn mixed(count: u32) -> Vec<Pixel> {
 /// D3: each entry's count is the number of pixels that bear its number, and they add up.
 #[test]
 fn counts_are_those_of_the_labels() {
-    for closeness in [0, 1, 5, 20] {
+    for closeness in [-10, -1, 0, 1, 5, 20] {
         let pixels = mixed(3000);
         let card = card(&pixels, closeness);
         assert_eq!(card.labels.len(), pixels.len());

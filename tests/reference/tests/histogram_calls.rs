@@ -27,9 +27,22 @@ fn counts_sum_to_65_536_at_most() {
     assert_eq!(fit(&[u32::MAX; 256], true).number, 7);
 }
 
+/// Each closeness at an end of the range or past it, and the number of a call that is right in all else.
+const CLOSENESSES: [(i32, u32); 8] = [
+    (i32::MIN, 8),
+    (-21, 8),
+    (-11, 8),
+    (-10, 0),
+    (0, 0),
+    (20, 0),
+    (21, 8),
+    (i32::MAX, 8),
+];
+
 #[test]
-fn closeness_is_20_at_most() {
-    for (closeness, number) in [(20, 0), (21, 8), (u32::MAX, 8)] {
+fn closeness_is_minus_10_to_20() {
+    assert_eq!((LEAST_CLOSENESS, MOST_CLOSENESS), (-10, 20));
+    for (closeness, number) in CLOSENESSES {
         assert_eq!(verdict(&[3, 1], true, closeness).number, number);
     }
 }
@@ -40,9 +53,11 @@ fn the_first_ground_counts() {
         number,
         verdict: NO_VERDICT,
     };
-    assert_eq!(verdict(&[u32::MAX; 257], true, 21), turned_down(6));
-    assert_eq!(verdict(&[u32::MAX; 256], true, 21), turned_down(7));
-    assert_eq!(verdict(&[9, 0, 9, 0], true, 21), turned_down(8));
+    for closeness in [-11, 21] {
+        assert_eq!(verdict(&[u32::MAX; 257], true, closeness), turned_down(6));
+        assert_eq!(verdict(&[u32::MAX; 256], true, closeness), turned_down(7));
+        assert_eq!(verdict(&[9, 0, 9, 0], true, closeness), turned_down(8));
+    }
 }
 
 #[test]
@@ -68,7 +83,7 @@ fn places_past_the_last_bin_are_zero() {
         .all(|&figure| figure == 0));
 }
 
-type ModesCall = fn(&[u32], u32, &mut [u32]) -> ModesAnswer;
+type ModesCall = fn(&[u32], i32, &mut [u32]) -> ModesAnswer;
 
 const CALLS: [ModesCall; 2] = [line_modes, ring_modes];
 
@@ -94,6 +109,8 @@ fn modes_that_are_given() {
     };
     assert_eq!(line_modes(&[0, 1, 0, 1, 0], 0, &mut list), one);
     assert_eq!(list, [0, 4, 4, 9, 9, 9, 9]);
+    assert_eq!(line_modes(&[0, 1, 0, 1, 0], -10, &mut list), two);
+    assert_eq!(list, [0, 2, 4, 9, 9, 9, 9]);
 }
 
 #[test]
@@ -105,7 +122,7 @@ fn modes_are_turned_down_on_four_grounds() {
         for (last, number) in [(1, 0), (2, 7), (u32::MAX, 7)] {
             assert_eq!(call(&[65_535, last], 20, &mut [0; 2]).number, number);
         }
-        for (closeness, number) in [(20, 0), (21, 8), (u32::MAX, 8)] {
+        for (closeness, number) in CLOSENESSES {
             assert_eq!(call(&[3, 1], closeness, &mut [0; 2]).number, number);
         }
         for (places, number) in [(0, 10), (2, 10), (3, 0), (4, 0)] {
@@ -118,10 +135,14 @@ fn modes_are_turned_down_on_four_grounds() {
 fn modes_turned_down_leave_the_list() {
     for call in CALLS {
         let mut list = [7, 8];
-        assert_eq!(call(&[u32::MAX; 257], 21, &mut list), modes_turned_down(6));
-        assert_eq!(call(&[u32::MAX; 256], 21, &mut list), modes_turned_down(7));
-        assert_eq!(call(&[9, 0, 9, 0], 21, &mut list), modes_turned_down(8));
-        assert_eq!(call(&[9, 0, 9, 0], 0, &mut list), modes_turned_down(10));
+        for e in [-11, 21] {
+            assert_eq!(call(&[u32::MAX; 257], e, &mut list), modes_turned_down(6));
+            assert_eq!(call(&[u32::MAX; 256], e, &mut list), modes_turned_down(7));
+            assert_eq!(call(&[9, 0, 9, 0], e, &mut list), modes_turned_down(8));
+        }
+        for e in [-10, 0, 20] {
+            assert_eq!(call(&[9, 0, 9, 0], e, &mut list), modes_turned_down(10));
+        }
         assert_eq!(list, [7, 8]);
     }
 }

@@ -159,6 +159,7 @@ fn a_card_is_printed_in_6_columns() {
         printed_card(&[red], 16_384, 0),
         "     1 16384     0\n     1     2     3     4   255     0    10 16384\n"
     );
+    assert_eq!(printed_card(&[], 7, -10), "     0     7   -10\n");
     assert_eq!(printed_number(11), "    11\n");
     assert_eq!(printed_number(3), "     3\n");
 }
