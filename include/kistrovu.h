@@ -71,7 +71,7 @@ enum kistrovu_ground {
     KISTROVU_PIXELS = 5,       /* the image has more than 65,536 pixels */
     KISTROVU_BINS = 6,         /* the histogram has fewer than 2 bins or more than 256 */
     KISTROVU_SUM = 7,          /* the counts of the histogram add up to more than 65,536 */
-    KISTROVU_CLOSENESS = 8,    /* the closeness is larger than 20 */
+    KISTROVU_CLOSENESS = 8,    /* the closeness is below -10 or above 20 */
     KISTROVU_LABELS = 9,       /* the label buffer does not have one place for each pixel */
     KISTROVU_SEPARATORS = 10,  /* the separator list is shorter than the histogram */
     KISTROVU_ENTRIES = 11      /* the card would have more than 255 entries */
@@ -79,6 +79,7 @@ enum kistrovu_ground {
 
 /* The limits. A swatch's text has 13 bytes for its header and 13 for each pixel. */
 #define KISTROVU_MOST_BINS 256
+#define KISTROVU_LEAST_CLOSENESS (-10)
 #define KISTROVU_MOST_CLOSENESS 20
 #define KISTROVU_MOST_PIXELS 65536
 #define KISTROVU_MOST_ENTRIES 255
@@ -115,8 +116,17 @@ struct kistrovu_fit_answer { /* 2,052 bytes */
 struct kistrovu_fit_answer kistrovu_fit(const uint32_t *histogram, size_t bins, bool rising);
 
 /* ---- the verdict: whether a histogram is too far from the monotone fit. Grounds 6, 7, 8
- * The cost is in units of 1/67,108,864 of a bit and may be negative; the histogram is rejected if the cost is 0 or more.
- * Each step of closeness takes one bit off the cost, so a larger closeness rejects less, and modes join more readily.
+ * The cost is in units of 1/67,108,864 of a bit and may be negative. The histogram is rejected if its cost is 0 or more and
+ * it has a step against the fit: for an increasing fit from a bin to a lower one, for a decreasing fit to a higher one.
+ * Without such a step it is accepted, whatever it costs. So a cost of 0 or more does not by itself mean a rejection.
+ *
+ * Closeness is from KISTROVU_LEAST_CLOSENESS to KISTROVU_MOST_CLOSENESS, and each 1 of it takes one bit off every cost.
+ * A larger closeness rejects less and joins modes more readily: as a rule a card has fewer entries. A smaller one is
+ * looser: less evidence keeps two modes apart, and as a rule a card has more entries. A stretch of L bins has a bar of
+ * log2(L(L+1)/2) + closeness bits; where that is 0 or less, nothing joins. At -10 this is so for up to 44 bins, so that the
+ * 42 of saturation have a mode for every hump; in a longer histogram (intensity has 52 bins, hue 60) runs over more than
+ * 44 bins can still be joined.
+ *
  * A cost comes of logarithms to base 2 in the same units, which no call hands out. For a controller that needs those of
  * 1 to 1,024, the source has them in crates/logarithm/src/sheet.rt, in the array SHEET: that of x at place x - 1, counted
  * from 0. */
@@ -131,7 +141,7 @@ struct kistrovu_verdict_answer { /* 24 bytes */
     struct kistrovu_verdict verdict;
 };
 
-struct kistrovu_verdict_answer kistrovu_verdict(const uint32_t *histogram, size_t bins, bool rising, uint32_t closeness);
+struct kistrovu_verdict_answer kistrovu_verdict(const uint32_t *histogram, size_t bins, bool rising, int32_t closeness);
 
 /* ---- the modes of a line of bins, and of a ring, whose last bin is beside its first. Grounds 6, 7, 8, 10
  * The separators are in the first places of the list, and the answer says how many there are; the other places stay as
@@ -144,9 +154,9 @@ struct kistrovu_modes_answer { /* 8 bytes */
     uint32_t separators;
 };
 
-struct kistrovu_modes_answer kistrovu_line_modes(const uint32_t *histogram, size_t bins, uint32_t closeness,
+struct kistrovu_modes_answer kistrovu_line_modes(const uint32_t *histogram, size_t bins, int32_t closeness,
                                                  uint32_t *separators, size_t places);
-struct kistrovu_modes_answer kistrovu_ring_modes(const uint32_t *histogram, size_t bins, uint32_t closeness,
+struct kistrovu_modes_answer kistrovu_ring_modes(const uint32_t *histogram, size_t bins, int32_t closeness,
                                                  uint32_t *separators, size_t places);
 
 /* ---- the card of an image. Grounds 4, 5, 8, 9, 11
@@ -171,7 +181,7 @@ struct kistrovu_card { /* 3,068 bytes */
     struct kistrovu_entry entries[KISTROVU_MOST_ENTRIES];
 };
 
-struct kistrovu_card kistrovu_card(const uint8_t *pixels, size_t bytes, uint32_t closeness, uint8_t *labels, size_t places);
+struct kistrovu_card kistrovu_card(const uint8_t *pixels, size_t bytes, int32_t closeness, uint8_t *labels, size_t places);
 
 /* ---- the card of a swatch, both as text, at closeness 0. Grounds 1, 2, 3, 11
  * docs/FORMAT.md describes both texts. The first len places of bytes hold the text of the card; the rest are zero, but a

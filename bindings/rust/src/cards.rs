@@ -93,6 +93,10 @@ pub struct Card {
 /// let red = Entry { hue: 1, red: 202, blue: 0, count: 20, ..blue };
 /// assert_eq!(made.entries, [blue, red]);
 /// assert_eq!(made.labels, [1, 0, 1].repeat(10));
+/// // Black beside white is one grey at 0, and two greys where less evidence will do.
+/// let piano = [0, 0, 0, 255, 255, 255];
+/// assert_eq!(card(&piano, 0)?.entries.len(), 1);
+/// assert_eq!(card(&piano, -10)?.entries.len(), 2);
 ///
 /// assert_eq!(card(&[], 0), Err(Ground::Bytes));
 /// assert_eq!(card(&[200, 0, 0, 0], 0), Err(Ground::Bytes));
@@ -106,7 +110,7 @@ pub struct Card {
 /// # Ok::<(), Ground>(())
 /// ```
 #[cfg(feature = "alloc")]
-pub fn card(pixels: &[u8], closeness: u32) -> Result<Card, Ground> {
+pub fn card(pixels: &[u8], closeness: i32) -> Result<Card, Ground> {
     // There is a label for each pixel, so `Labels` is never the ground. There are no more labels than a served call can
     // have: `Pixels` is tested earlier.
     let mut labels = vec![0; raw::MOST_PIXELS.min(pixels.len() / 3)];
@@ -142,7 +146,7 @@ pub fn card(pixels: &[u8], closeness: u32) -> Result<Card, Ground> {
 /// assert_eq!(labels, [99; 65_536]);
 /// # Ok::<(), Ground>(())
 /// ```
-pub fn card_into(pixels: &[u8], closeness: u32, labels: &mut [u8]) -> Result<Entries, Ground> {
+pub fn card_into(pixels: &[u8], closeness: i32, labels: &mut [u8]) -> Result<Entries, Ground> {
     let (start, bytes) = (pixels.as_ptr(), pixels.len());
     let (list, places) = (labels.as_mut_ptr(), labels.len());
     // SAFETY: each pointer and its length are those of one slice, lent for the time of the call; the two slices do not

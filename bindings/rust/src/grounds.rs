@@ -41,7 +41,7 @@ macro_rules! grounds {
             ///
             /// ```
             /// # use kistrovu::Ground;
-            /// assert_eq!(Ground::Closeness.sentence(), "The closeness is larger than 20.");
+            /// assert_eq!(Ground::Closeness.sentence(), "The closeness is below -10 or above 20.");
             /// ```
             pub const fn sentence(self) -> &'static str {
                 match self {
@@ -61,7 +61,7 @@ grounds! {
     Pixels = 5: "The image has more than 65,536 pixels.",
     Bins = 6: "The histogram has fewer than 2 bins or more than 256.",
     Sum = 7: "The counts of the histogram add up to more than 65,536.",
-    Closeness = 8: "The closeness is larger than 20.",
+    Closeness = 8: "The closeness is below -10 or above 20.",
     Labels = 9: "The label buffer does not have one place for each pixel.",
     Separators = 10: "The separator list is shorter than the histogram.",
     Entries = 11: "The card would have more than 255 entries.",

@@ -94,7 +94,8 @@ pub struct Verdict {
     /// By how much the histogram exceeds the bar of the test, in units of 1/67,108,864 of a bit; negative if it stays below
     /// the bar.
     pub cost: i64,
-    /// Whether the cost is 0 or more: the histogram is not taken for a monotone one.
+    /// Whether the histogram is not taken for a monotone one: its cost is 0 or more, and some step from a bin to the next
+    /// goes against the direction. Without such a step it is never rejected, also where the cost is 0 or more.
     pub rejected: bool,
 }
 
@@ -107,14 +108,20 @@ pub struct Verdict {
 /// // A monotone histogram costs minus the bar: here minus log2(3), in units.
 /// let falling = verdict(&[20, 0], Direction::Decreasing, 0)?;
 /// assert_eq!((falling.cost, falling.rejected), (-106_365_032, false));
+/// // At a negative closeness the bar may be below 0. Without a step against it, the histogram is still accepted.
+/// let loose = |histogram| verdict(histogram, Direction::Increasing, -10);
+/// let (rises, falls) = (loose(&[0, 1])?, loose(&[1, 0])?);
+/// assert_eq!((rises.cost, rises.rejected), (564_723_608, false));
+/// assert_eq!((falls.cost, falls.rejected), (631_832_472, true));
 ///
 /// let rising = |histogram: &[u32], closeness| verdict(histogram, Direction::Increasing, closeness);
 /// assert_eq!(rising(&[], 0), Err(Ground::Bins));
 /// assert_eq!(rising(&[65_536, 1], 0), Err(Ground::Sum));
 /// assert_eq!(rising(&[20, 0], 21), Err(Ground::Closeness));
+/// assert_eq!(rising(&[20, 0], -11), Err(Ground::Closeness));
 /// # Ok::<(), Ground>(())
 /// ```
-pub fn verdict(histogram: &[u32], direction: Direction, closeness: u32) -> Result<Verdict, Ground> {
+pub fn verdict(histogram: &[u32], direction: Direction, closeness: i32) -> Result<Verdict, Ground> {
     let (bins, len) = (histogram.as_ptr(), histogram.len());
     // SAFETY: as in `fit`.
     let answer = unsafe { raw::kistrovu_verdict(bins, len, direction.rising(), closeness) };

@@ -31,9 +31,12 @@
 //! | [`version`] | the version of the library | none |
 //!
 //! A *swatch* is the scan of a piece of cloth: the program reads it as text, and the card call takes its pixels. The
-//! *closeness* e, 0 to [`MOST_CLOSENESS`](raw::MOST_CLOSENESS), says how near a histogram must be to a monotone one:
-//! the bar of the test rises by a bit with each step, so that a larger closeness takes clearer evidence to keep two modes
-//! apart. The program works at 0.
+//! *closeness* e, [`LEAST_CLOSENESS`](raw::LEAST_CLOSENESS) to [`MOST_CLOSENESS`](raw::MOST_CLOSENESS), says how much
+//! evidence it takes to keep two modes apart: the bar of the test rises by a bit with each 1 of it. A larger closeness
+//! gives fewer entries as a rule, a smaller one is looser and gives more. The bar of a stretch of L bins is
+//! log2(L(L+1)/2) + e bits; where that is 0 or less, nothing joins. At −10 this is so for up to 44 bins: the 42 of
+//! saturation then have a mode for every hump, while runs over more than 44 bins of intensity or hue can still be joined.
+//! The program works at 0.
 //!
 //! # Stack, heap and threads
 //!

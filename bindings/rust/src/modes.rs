@@ -5,7 +5,7 @@ use crate::Ground;
 #[cfg(feature = "alloc")]
 use alloc::vec::Vec;
 
-type ModesCall = unsafe extern "C" fn(*const u32, usize, u32, *mut u32, usize) -> ModesAnswer;
+type ModesCall = unsafe extern "C" fn(*const u32, usize, i32, *mut u32, usize) -> ModesAnswer;
 
 /// The separators of a line of bins, rising: the bins at which its modes begin, and its last bin. Each mode runs from a
 /// separator up to the bin before the next, and the last one takes the last bin. Grounds: [`Bins`](Ground::Bins),
@@ -18,6 +18,9 @@ type ModesCall = unsafe extern "C" fn(*const u32, usize, u32, *mut u32, usize) -
 /// assert_eq!(line_modes(&[0, 20, 0, 20, 0], 13)?, [0, 2, 4]);
 /// // At this closeness 40 counts are no longer evidence enough: one mode.
 /// assert_eq!(line_modes(&[0, 20, 0, 20, 0], 14)?, [0, 4]);
+/// // Two counts are not enough at 0. Where less evidence will do, they are two modes.
+/// assert_eq!(line_modes(&[0, 1, 0, 1, 0], 0)?, [0, 4]);
+/// assert_eq!(line_modes(&[0, 1, 0, 1, 0], -4)?, [0, 2, 4]);
 ///
 /// assert_eq!(line_modes(&[20], 0), Err(Ground::Bins));
 /// assert_eq!(line_modes(&[65_536, 1], 0), Err(Ground::Sum));
@@ -25,7 +28,7 @@ type ModesCall = unsafe extern "C" fn(*const u32, usize, u32, *mut u32, usize) -
 /// # Ok::<(), Ground>(())
 /// ```
 #[cfg(feature = "alloc")]
-pub fn line_modes(histogram: &[u32], closeness: u32) -> Result<Vec<u32>, Ground> {
+pub fn line_modes(histogram: &[u32], closeness: i32) -> Result<Vec<u32>, Ground> {
     listed(raw::kistrovu_line_modes, histogram, closeness)
 }
 
@@ -45,7 +48,7 @@ pub fn line_modes(histogram: &[u32], closeness: u32) -> Result<Vec<u32>, Ground>
 /// # Ok::<(), Ground>(())
 /// ```
 #[cfg(feature = "alloc")]
-pub fn ring_modes(histogram: &[u32], closeness: u32) -> Result<Vec<u32>, Ground> {
+pub fn ring_modes(histogram: &[u32], closeness: i32) -> Result<Vec<u32>, Ground> {
     listed(raw::kistrovu_ring_modes, histogram, closeness)
 }
 
@@ -69,7 +72,7 @@ pub fn ring_modes(histogram: &[u32], closeness: u32) -> Result<Vec<u32>, Ground>
 /// ```
 pub fn line_modes_into(
     histogram: &[u32],
-    closeness: u32,
+    closeness: i32,
     separators: &mut [u32],
 ) -> Result<usize, Ground> {
     modes(raw::kistrovu_line_modes, histogram, closeness, separators)
@@ -97,7 +100,7 @@ pub fn line_modes_into(
 /// ```
 pub fn ring_modes_into(
     histogram: &[u32],
-    closeness: u32,
+    closeness: i32,
     separators: &mut [u32],
 ) -> Result<usize, Ground> {
     modes(raw::kistrovu_ring_modes, histogram, closeness, separators)
@@ -105,7 +108,7 @@ pub fn ring_modes_into(
 
 /// The list has room for every histogram that is served, so `Separators` is never the ground.
 #[cfg(feature = "alloc")]
-fn listed(call: ModesCall, histogram: &[u32], closeness: u32) -> Result<Vec<u32>, Ground> {
+fn listed(call: ModesCall, histogram: &[u32], closeness: i32) -> Result<Vec<u32>, Ground> {
     let mut list = [0; raw::MOST_BINS];
     let count = modes(call, histogram, closeness, &mut list)?;
     Ok(list[..count].to_vec())
@@ -114,7 +117,7 @@ fn listed(call: ModesCall, histogram: &[u32], closeness: u32) -> Result<Vec<u32>
 fn modes(
     call: ModesCall,
     histogram: &[u32],
-    closeness: u32,
+    closeness: i32,
     separators: &mut [u32],
 ) -> Result<usize, Ground> {
     let (bins, len) = (histogram.as_ptr(), histogram.len());

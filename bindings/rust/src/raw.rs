@@ -15,8 +15,10 @@
 pub const MOST_BINS: usize = 256;
 /// The most pixels of an image, and the most that a histogram's counts may sum to.
 pub const MOST_PIXELS: usize = 65_536;
+/// The least closeness.
+pub const LEAST_CLOSENESS: i32 = -10;
 /// The largest closeness.
-pub const MOST_CLOSENESS: u32 = 20;
+pub const MOST_CLOSENESS: i32 = 20;
 /// The most entries of a card.
 pub const MOST_ENTRIES: usize = 255;
 /// The most bytes that are printed: a line of 3 fields of 6 columns, and a line of 8 for each entry.
@@ -159,14 +161,14 @@ extern "C" {
         histogram: *const u32,
         bins: usize,
         rising: bool,
-        closeness: u32,
+        closeness: i32,
     ) -> VerdictAnswer;
 
     /// The modes of a line of bins: its separators, rising, in the first places of the list. Grounds 6, 7, 8, 10.
     pub fn kistrovu_line_modes(
         histogram: *const u32,
         bins: usize,
-        closeness: u32,
+        closeness: i32,
         separators: *mut u32,
         places: usize,
     ) -> ModesAnswer;
@@ -175,7 +177,7 @@ extern "C" {
     pub fn kistrovu_ring_modes(
         histogram: *const u32,
         bins: usize,
-        closeness: u32,
+        closeness: i32,
         separators: *mut u32,
         places: usize,
     ) -> ModesAnswer;
@@ -184,7 +186,7 @@ extern "C" {
     pub fn kistrovu_card(
         pixels: *const u8,
         bytes: usize,
-        closeness: u32,
+        closeness: i32,
         labels: *mut u8,
         places: usize,
     ) -> Card;

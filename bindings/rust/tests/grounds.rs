@@ -21,7 +21,7 @@ fn of_the_header() -> BTreeMap<u32, String> {
     rows.filter(|(number, _)| *number != 0).collect()
 }
 
-/// The first sentences of the rules, in lines as `- **G8** The closeness is larger than 20.`
+/// The first sentences of the rules, in lines as `- **G8** The closeness is below -10 or above 20.`
 fn of_the_rules() -> BTreeMap<u32, String> {
     let rules = file("docs/METHOD.md");
     let rows = rules.lines().filter_map(|line| {

@@ -4,13 +4,13 @@
 mod common;
 
 use common::{cube, examples, file, pixels};
-use kistrovu::raw::{MOST_BINS, MOST_CLOSENESS, MOST_PIXELS};
+use kistrovu::raw::{LEAST_CLOSENESS, MOST_BINS, MOST_CLOSENESS, MOST_PIXELS};
 use kistrovu::*;
 
 const PIXELS: u32 = MOST_PIXELS as u32;
 const HUMPS: [u32; 7] = [0, 20, 0, 0, 20, 0, 30];
 
-type ModesInto = fn(&[u32], u32, &mut [u32]) -> Result<usize, Ground>;
+type ModesInto = fn(&[u32], i32, &mut [u32]) -> Result<usize, Ground>;
 const MODES: [ModesInto; 2] = [line_modes_into, ring_modes_into];
 
 /// Numbers that are not bins, all different, so that every place that is written shows.
@@ -19,7 +19,7 @@ fn list(places: usize) -> Vec<u32> {
 }
 
 /// The ground; checks that the list came back as lent.
-fn modes_turned_down(call: ModesInto, histogram: &[u32], closeness: u32, places: usize) -> Ground {
+fn modes_turned_down(call: ModesInto, histogram: &[u32], closeness: i32, places: usize) -> Ground {
     let mut lent = list(places);
     let ground = call(histogram, closeness, &mut lent).unwrap_err();
     assert_eq!(lent, list(places));
@@ -38,7 +38,9 @@ fn modes_that_are_turned_down_leave_the_list() {
         assert_eq!(ground(&[PIXELS, 1], 21, 1), Ground::Sum);
         assert_eq!(ground(&[u32::MAX; 256], 0, 256), Ground::Sum);
         assert_eq!(ground(&HUMPS, MOST_CLOSENESS + 1, 6), Ground::Closeness);
-        assert_eq!(ground(&HUMPS, u32::MAX, 7), Ground::Closeness);
+        assert_eq!(ground(&HUMPS, LEAST_CLOSENESS - 1, 6), Ground::Closeness);
+        assert_eq!(ground(&HUMPS, i32::MAX, 7), Ground::Closeness);
+        assert_eq!(ground(&HUMPS, i32::MIN, 7), Ground::Closeness);
         assert_eq!(ground(&HUMPS, 0, 6), Ground::Separators);
         assert_eq!(ground(&HUMPS, 0, 0), Ground::Separators);
     }
@@ -61,18 +63,20 @@ fn served_modes_write_the_first_places_alone() {
 fn limits_are_served() {
     let mut sum = [0; MOST_BINS];
     sum[7] = PIXELS;
-    for call in MODES {
-        assert!(call(&sum, MOST_CLOSENESS, &mut [0; MOST_BINS]).is_ok());
-    }
-    assert!(line_modes(&sum, MOST_CLOSENESS).is_ok());
-    assert!(ring_modes(&sum, MOST_CLOSENESS).is_ok());
     assert!(fit(&sum, Direction::Increasing).is_ok());
-    assert!(verdict(&sum, Direction::Decreasing, MOST_CLOSENESS).is_ok());
-    assert!(card(&[7; 3 * MOST_PIXELS], MOST_CLOSENESS).is_ok());
+    for closeness in [LEAST_CLOSENESS, MOST_CLOSENESS] {
+        for call in MODES {
+            assert!(call(&sum, closeness, &mut [0; MOST_BINS]).is_ok());
+        }
+        assert!(line_modes(&sum, closeness).is_ok());
+        assert!(ring_modes(&sum, closeness).is_ok());
+        assert!(verdict(&sum, Direction::Decreasing, closeness).is_ok());
+        assert!(card(&[7; 3 * MOST_PIXELS], closeness).is_ok());
+    }
 }
 
 /// The ground; checks that the labels came back as lent.
-fn card_turned_down(pixels: &[u8], closeness: u32, places: usize) -> Ground {
+fn card_turned_down(pixels: &[u8], closeness: i32, places: usize) -> Ground {
     let lent: Vec<u8> = (0..places).map(|place| (251 - place % 241) as u8).collect();
     let mut labels = lent.clone();
     let ground = card_into(pixels, closeness, &mut labels).unwrap_err();
@@ -86,7 +90,9 @@ fn a_card_that_is_turned_down_leaves_the_labels() {
     assert_eq!(card_turned_down(&[7; 8], 21, 2), Ground::Bytes);
     let many = MOST_PIXELS + 1;
     assert_eq!(card_turned_down(&cube(many), 21, many), Ground::Pixels);
-    assert_eq!(card_turned_down(&cube(2), 21, 3), Ground::Closeness);
+    for closeness in [21, -11, i32::MIN] {
+        assert_eq!(card_turned_down(&cube(2), closeness, 3), Ground::Closeness);
+    }
     for places in [0, 1, 3, 6] {
         assert_eq!(card_turned_down(&cube(2), 0, places), Ground::Labels);
     }
@@ -99,7 +105,7 @@ fn a_card_that_is_turned_down_leaves_the_labels() {
 fn with_a_heap_and_without_the_answers_are_the_same() {
     for name in examples() {
         let pixels = pixels(&file(&format!("examples/{name}.swatch")));
-        for closeness in [0, 7, MOST_CLOSENESS] {
+        for closeness in [LEAST_CLOSENESS, 0, 7, MOST_CLOSENESS] {
             let mut labels = vec![99; pixels.len() / 3];
             let entries = card_into(&pixels, closeness, &mut labels).unwrap();
             let card = card(&pixels, closeness).unwrap();

@@ -27,6 +27,11 @@ impl Random {
         low + (self.bits() % (u64::from(high - low) + 1)) as u32
     }
 
+    /// The same of signed numbers.
+    pub fn signed_within(&mut self, low: i32, high: i32) -> i32 {
+        low + self.within(0, high.abs_diff(low)) as i32
+    }
+
     pub fn coin(&mut self) -> bool {
         self.bits() & 1 == 1
     }

@@ -3,13 +3,14 @@
 use crate::card_shapes::{self, CardShape, SHAPES};
 use cloths::full_cards;
 use cloths::random::Random;
-use reference::calls::{MOST_CLOSENESS, MOST_PIXELS};
+use crate::closenesses;
+use reference::calls::{LEAST_CLOSENESS, MOST_CLOSENESS, MOST_PIXELS};
 use reference::cards::Pixel;
 
 /// Pixel bytes, the closeness, and how many labels are lent.
 pub struct CardCase {
     pub bytes: Vec<u8>,
-    pub closeness: u32,
+    pub closeness: i32,
     pub places: usize,
 }
 
@@ -29,7 +30,7 @@ pub const CARDS: [(&str, CardSource); 20] = [
     ("one pixel", List(one_pixel)),
     ("two pixels", List(two_pixels)),
     ("all equal", List(all_equal)),
-    ("every closeness 0 to 22", List(every_closeness)),
+    ("every closeness -12 to 22", List(every_closeness)),
     ("255 and 256 entries", List(limit)),
     ("around 255 entries", List(around_the_limit)),
     ("up to 65,536 pixels", List(large)),
@@ -73,9 +74,9 @@ fn draw(random: &mut Random, shape: CardShape, most: usize) -> CardCase {
     let count = 1 + random.below(most);
     let pixels = shape(random, count);
     let top = if random.coin() { 3 } else { MOST_CLOSENESS };
-    let mut case = fitting(&pixels, random.within(0, top));
+    let mut case = fitting(&pixels, random.signed_within(LEAST_CLOSENESS, top));
     match random.below(100) {
-        0 => case.closeness = random.within(MOST_CLOSENESS + 1, MOST_CLOSENESS + 3),
+        0 => case.closeness = closenesses::AT_THE_ENDS[random.below(closenesses::AT_THE_ENDS.len())],
         1 => case.places = random.below(2 * case.places + 2),
         2 => case.bytes.truncate(random.below(case.bytes.len())),
         _ => {}
@@ -87,7 +88,7 @@ fn any(random: &mut Random, pixels: usize) -> Vec<Pixel> {
     SHAPES[random.below(SHAPES.len())](random, pixels)
 }
 
-fn fitting(pixels: &[Pixel], closeness: u32) -> CardCase {
+fn fitting(pixels: &[Pixel], closeness: i32) -> CardCase {
     CardCase {
         bytes: pixels.concat(),
         closeness,
@@ -107,7 +108,7 @@ fn samples(_: &mut Random) -> Vec<CardCase> {
         &[[0, 0, 0], [255, 255, 255]],
     ];
     let mut cases = Vec::new();
-    for closeness in [0, MOST_CLOSENESS, MOST_CLOSENESS + 1] {
+    for closeness in closenesses::every() {
         for swatch in swatches {
             for times in [1, 20] {
                 cases.push(fitting(&swatch.repeat(times), closeness));
@@ -137,7 +138,7 @@ fn grounds(_: &mut Random) -> Vec<CardCase> {
         most + 3,
         2 * most,
     ] {
-        for closeness in [0, MOST_CLOSENESS, MOST_CLOSENESS + 1, 1 << 16, u32::MAX] {
+        for closeness in closenesses::AT_THE_ENDS {
             let pixels = bytes / 3;
             for places in [0, pixels.saturating_sub(1), pixels, pixels + 1, bytes] {
                 cases.push(CardCase {
@@ -156,15 +157,14 @@ fn one_pixel(random: &mut Random) -> Vec<CardCase> {
     let mut pixels: Vec<Pixel> = corners.collect();
     pixels.extend(card_shapes::noise(random, 200));
     pixels.extend(card_shapes::nearly_grey(random, 100));
-    let closeness = |place| place as u32 % (MOST_CLOSENESS + 1);
     (pixels.iter().enumerate())
-        .map(|(place, &pixel)| fitting(&[pixel], closeness(place)))
+        .map(|(place, &pixel)| fitting(&[pixel], closenesses::in_turn(place)))
         .collect()
 }
 
 fn two_pixels(random: &mut Random) -> Vec<CardCase> {
     (0..300)
-        .map(|index| fitting(&any(random, 2), index % (MOST_CLOSENESS + 1)))
+        .map(|index| fitting(&any(random, 2), closenesses::in_turn(index)))
         .collect()
 }
 
@@ -173,7 +173,7 @@ fn all_equal(random: &mut Random) -> Vec<CardCase> {
     counts
         .map(|pixels| {
             let shape = [card_shapes::all_equal, same_grey][pixels % 2];
-            fitting(&shape(random, pixels), pixels as u32 % (MOST_CLOSENESS + 1))
+            fitting(&shape(random, pixels), closenesses::in_turn(pixels))
         })
         .collect()
 }
@@ -187,7 +187,7 @@ fn every_closeness(random: &mut Random) -> Vec<CardCase> {
         .flat_map(|index| {
             let count = 100 + random.below(900);
             let pixels = SHAPES[index % SHAPES.len()](random, count);
-            (0..=MOST_CLOSENESS + 2).map(move |closeness| fitting(&pixels, closeness))
+            closenesses::every().map(move |closeness| fitting(&pixels, closeness))
         })
         .collect()
 }
@@ -195,7 +195,7 @@ fn every_closeness(random: &mut Random) -> Vec<CardCase> {
 /// Enough pixels for each entry that none joins at this closeness: 255 are served, 256 are not.
 fn limit(_: &mut Random) -> Vec<CardCase> {
     let mut cases = Vec::new();
-    for (each, closeness) in [(10, 0), (64, 0), (64, 10), (250, MOST_CLOSENESS)] {
+    for (each, closeness) in [(1, LEAST_CLOSENESS), (10, 0), (64, 0), (64, 10), (250, MOST_CLOSENESS)] {
         for entries in [254, 255, 256, 257] {
             cases.push(fitting(&full_cards::pixels(entries, each), closeness));
         }
@@ -208,8 +208,8 @@ fn around_the_limit(random: &mut Random) -> Vec<CardCase> {
     (0..60)
         .map(|_| {
             let entries = random.within(240, full_cards::MOST as u32) as usize;
-            let closeness = random.within(0, MOST_CLOSENESS);
-            let each = 7 + random.below(8) + 2 * closeness as usize;
+            let closeness = closenesses::served(random);
+            let each = 7 + random.below(8) + 2 * closeness.max(0) as usize;
             let mut pixels = full_cards::pixels(entries, each);
             for _ in 0..random.below(20) {
                 pixels.swap_remove(random.below(pixels.len()));
@@ -230,7 +230,7 @@ fn large(random: &mut Random) -> Vec<CardCase> {
             let closeness = if random.coin() {
                 0
             } else {
-                random.within(0, MOST_CLOSENESS)
+                closenesses::served(random)
             };
             fitting(&SHAPES[index % SHAPES.len()](random, count), closeness)
         })

@@ -163,7 +163,7 @@ fn fit(histogram: &[u32], rising: bool, tally: &mut Tally) -> Result<(), Differe
 fn verdict(
     histogram: &[u32],
     rising: bool,
-    closeness: u32,
+    closeness: i32,
     tally: &mut Tally,
 ) -> Result<(), Difference> {
     let mut lent = histogram.to_vec();

@@ -1,14 +1,15 @@
 //! The named groups of histograms, each of which is one test.
 
+use crate::closenesses;
 use crate::shapes::{self, Shape, SHAPES};
 use crate::ties::TIES;
 use cloths::random::Random;
-use reference::calls::{MOST_BINS, MOST_CLOSENESS};
+use reference::calls::{LEAST_CLOSENESS, MOST_BINS, MOST_CLOSENESS};
 
 /// A histogram and the closenesses at which it is judged. Both directions are always taken.
 pub struct Case {
     pub histogram: Vec<u32>,
-    pub closenesses: Vec<u32>,
+    pub closenesses: Vec<i32>,
 }
 
 /// Where a group's histograms come from.
@@ -28,7 +29,7 @@ pub const GROUPS: [(&str, Source); 18] = [
     ("empty and single spikes", List(single_spikes)),
     ("cost 0 and next to it", List(ties)),
     ("every length 0 to 300", List(every_length)),
-    ("every closeness 0 to 22", List(every_closeness)),
+    ("every closeness -12 to 22", List(every_closeness)),
     ("256 and 257 bins", List(longest)),
     ("noise", Draw(shapes::noise, 21)),
     ("sparse", Draw(shapes::sparse, 12)),
@@ -56,7 +57,7 @@ fn draw(random: &mut Random, count: usize, shape: Shape) -> Vec<Case> {
         .map(|_| {
             let bins = shapes::bins(random);
             let histogram = shape(random, bins);
-            let closenesses = vec![random.within(0, MOST_CLOSENESS + 2)];
+            let closenesses = vec![closenesses::any(random)];
             Case {
                 histogram,
                 closenesses,
@@ -68,12 +69,16 @@ fn draw(random: &mut Random, count: usize, shape: Shape) -> Vec<Case> {
 fn served(histogram: Vec<u32>) -> Case {
     Case {
         histogram,
-        closenesses: vec![0, 1, 3, MOST_CLOSENESS],
+        closenesses: vec![LEAST_CLOSENESS, -3, -1, 0, 1, 3, MOST_CLOSENESS],
     }
 }
 
 fn samples(_: &mut Random) -> Vec<Case> {
-    let stretches: [&[u32]; 8] = [
+    let stretches: [&[u32]; 12] = [
+        &[0, 1],
+        &[1, 0],
+        &[1, 0, 0],
+        &[3, 3, 3],
         &[3, 1, 2],
         &[1, 3, 2],
         &[0, 1, 0, 1],
@@ -83,7 +88,7 @@ fn samples(_: &mut Random) -> Vec<Case> {
         &[65_535, 1],
         &[65_536, 1],
     ];
-    let closenesses = vec![0, 13, 14, MOST_CLOSENESS, MOST_CLOSENESS + 1];
+    let closenesses: Vec<i32> = closenesses::every().collect();
     stretches
         .iter()
         .map(|stretch| Case {
@@ -147,7 +152,7 @@ fn ties(_: &mut Random) -> Vec<Case> {
         .flat_map(|&(_, closeness, stretch)| {
             let histogram = stretch.to_vec();
             let mirrored = stretch.iter().rev().copied().collect();
-            let closenesses: Vec<u32> = (closeness.saturating_sub(1)..=closeness + 1).collect();
+            let closenesses: Vec<i32> = (closeness - 1..=closeness + 1).collect();
             [histogram, mirrored].map(|histogram| Case {
                 histogram,
                 closenesses: closenesses.clone(),
@@ -164,7 +169,7 @@ fn every_length(random: &mut Random) -> Vec<Case> {
         histogram.truncate(bins);
         cases.push(Case {
             histogram,
-            closenesses: vec![random.within(0, MOST_CLOSENESS)],
+            closenesses: vec![closenesses::served(random)],
         });
     }
     cases
@@ -175,12 +180,12 @@ fn longest(random: &mut Random) -> Vec<Case> {
     let mut cases = Vec::new();
     for shape in SHAPES {
         for _ in 0..5 {
-            let closenesses = vec![random.within(0, MOST_CLOSENESS + 1)];
+            let closenesses = vec![closenesses::any(random)];
             cases.push(Case {
                 histogram: shape(random, MOST_BINS),
                 closenesses,
             });
-            let closenesses = vec![0, MOST_CLOSENESS + 1];
+            let closenesses = vec![0, LEAST_CLOSENESS - 1, MOST_CLOSENESS + 1];
             cases.push(Case {
                 histogram: shape(random, MOST_BINS + 1),
                 closenesses,
@@ -195,14 +200,14 @@ fn longest(random: &mut Random) -> Vec<Case> {
     for high in [1, 127, 128, 129, 255] {
         cases.push(Case {
             histogram: halves(high),
-            closenesses: vec![0],
+            closenesses: vec![LEAST_CLOSENESS, 0],
         });
     }
     for count in [MOST_BINS as u32, MOST_BINS as u32 + 1, u32::MAX] {
         for bins in [MOST_BINS, MOST_BINS + 1] {
             cases.push(Case {
                 histogram: vec![count; bins],
-                closenesses: vec![0, MOST_CLOSENESS + 1],
+                closenesses: vec![0, LEAST_CLOSENESS - 1, MOST_CLOSENESS + 1],
             });
         }
     }
@@ -210,9 +215,8 @@ fn longest(random: &mut Random) -> Vec<Case> {
 }
 
 fn every_closeness(random: &mut Random) -> Vec<Case> {
-    let closenesses: Vec<u32> = (0..=22)
-        .chain([1 << 8, 1 << 16, 1 << 31, u32::MAX])
-        .collect();
+    let ends = closenesses::AT_THE_ENDS;
+    let closenesses: Vec<i32> = closenesses::every().chain(ends).collect();
     (0..1000)
         .map(|index| {
             let bins = 2 + random.below(11);

@@ -3,6 +3,7 @@
 pub mod card_comparison;
 pub mod card_groups;
 pub mod card_shapes;
+pub mod closenesses;
 pub mod comparison;
 pub mod damage;
 pub mod groups;

@@ -1,15 +1,16 @@
 //! The named groups of lines and rings, each of which is one test.
 
+use crate::closenesses;
 use crate::mode_shapes;
 use crate::mode_ties::MODE_TIES;
 use crate::shapes::{self, Shape, SHAPES};
 use cloths::random::Random;
-use reference::calls::{MOST_BINS, MOST_CLOSENESS};
+use reference::calls::{LEAST_CLOSENESS, MOST_BINS, MOST_CLOSENESS};
 
 /// A histogram, the closeness, and how many places are lent for its separators.
 pub struct ModesCase {
     pub histogram: Vec<u32>,
-    pub closeness: u32,
+    pub closeness: i32,
     pub places: usize,
 }
 
@@ -24,7 +25,7 @@ pub enum ModesSource {
 use ModesSource::{Draw, List};
 
 /// The groups that lines and rings share.
-pub const BOTH: [(&str, ModesSource); 10] = [
+pub const BOTH: [(&str, ModesSource); 11] = [
     ("samples", List(samples)),
     ("every small histogram", List(every_small)),
     ("two bins", List(two_bins)),
@@ -32,9 +33,10 @@ pub const BOTH: [(&str, ModesSource); 10] = [
     ("cost 0 and next to it", List(ties)),
     ("grounds", List(grounds)),
     ("places of the list", List(places)),
-    ("every closeness 0 to 22", List(every_closeness)),
+    ("every closeness -12 to 22", List(every_closeness)),
     ("256 and 257 bins", List(longest)),
     ("cloths of 42, 52 and 60 bins", List(cloths)),
+    ("a bar around 0", List(around_a_bar_of_0)),
 ];
 
 pub const LINES: [(&str, ModesSource); 11] = [
@@ -76,14 +78,12 @@ impl ModesSource {
     }
 }
 
-/// Low closenesses, which leave more modes, are drawn more often.
 fn draw(random: &mut Random, count: usize, shape: Shape) -> Vec<ModesCase> {
     (0..count)
         .map(|_| {
             let bins = mode_shapes::bins(random);
             let histogram = shape(random, bins);
-            let top = if random.coin() { 3 } else { MOST_CLOSENESS + 2 };
-            let closeness = random.within(0, top);
+            let closeness = closenesses::mostly_low(random);
             let places = match random.below(20) {
                 0 => random.below(bins),
                 1..=9 => bins,
@@ -99,7 +99,7 @@ fn draw(random: &mut Random, count: usize, shape: Shape) -> Vec<ModesCase> {
         .collect()
 }
 
-fn fitting(histogram: Vec<u32>, closeness: u32) -> ModesCase {
+fn fitting(histogram: Vec<u32>, closeness: i32) -> ModesCase {
     let places = histogram.len();
     ModesCase {
         histogram,
@@ -119,10 +119,11 @@ fn samples(_: &mut Random) -> Vec<ModesCase> {
         &[65_536, 1],
         &[0, 0, 0, 0],
     ];
-    let closenesses = [0, 1, 13, 14, MOST_CLOSENESS, MOST_CLOSENESS + 1];
     histograms
         .iter()
-        .flat_map(|histogram| closenesses.map(|closeness| fitting(histogram.to_vec(), closeness)))
+        .flat_map(|histogram| {
+            closenesses::every().map(|closeness| fitting(histogram.to_vec(), closeness))
+        })
         .collect()
 }
 
@@ -145,7 +146,7 @@ fn every_small(_: &mut Random) -> Vec<ModesCase> {
         for code in 0..levels.len().pow(bins) {
             let digit = |bin| code / levels.len().pow(bin) % levels.len();
             let histogram: Vec<u32> = (0..bins).map(|bin| levels[digit(bin)]).collect();
-            for closeness in [0, 2] {
+            for closeness in [-2, 0, 2] {
                 cases.push(fitting(histogram.clone(), closeness));
             }
         }
@@ -157,7 +158,7 @@ fn two_bins(_: &mut Random) -> Vec<ModesCase> {
     let mut cases = Vec::new();
     for left in 0..=30 {
         for right in 0..=30 {
-            cases.push(fitting(vec![left, right], (left + right) % 3));
+            cases.push(fitting(vec![left, right], ((left + right) % 5) as i32 - 2));
         }
     }
     for left in [0, 1, 2, 32_767, 32_768, 32_769, 65_535, 65_536] {
@@ -172,7 +173,7 @@ fn all_equal(_: &mut Random) -> Vec<ModesCase> {
     let mut cases = Vec::new();
     for bins in (2..=40).chain([60, 128, 255, MOST_BINS]) {
         for count in [0, 1, 7, 65_536 / bins as u32] {
-            for closeness in [0, MOST_CLOSENESS] {
+            for closeness in [LEAST_CLOSENESS, 0, MOST_CLOSENESS] {
                 cases.push(fitting(vec![count; bins], closeness));
             }
         }
@@ -184,7 +185,7 @@ fn all_equal(_: &mut Random) -> Vec<ModesCase> {
 fn ties(_: &mut Random) -> Vec<ModesCase> {
     let mut cases = Vec::new();
     for &(_, closeness, line) in MODE_TIES {
-        for closeness in closeness.saturating_sub(1)..=closeness + 1 {
+        for closeness in closeness - 1..=closeness + 1 {
             let mut histogram = line.to_vec();
             cases.push(fitting(histogram.clone(), closeness));
             histogram.reverse();
@@ -202,7 +203,7 @@ fn grounds(_: &mut Random) -> Vec<ModesCase> {
     let mut cases = Vec::new();
     for bins in [0, 1, 2, 5, MOST_BINS, MOST_BINS + 1, 300] {
         for last in [0, 1, 65_536, 65_537, u32::MAX] {
-            for closeness in [0, MOST_CLOSENESS, MOST_CLOSENESS + 1, 1 << 16, u32::MAX] {
+            for closeness in closenesses::AT_THE_ENDS {
                 for places in [0, bins.saturating_sub(1), bins, bins + 1] {
                     let mut histogram = vec![0; bins];
                     if let Some(bin) = histogram.last_mut() {
@@ -241,7 +242,7 @@ fn every_closeness(random: &mut Random) -> Vec<ModesCase> {
         .flat_map(|index| {
             let bins = 4 + random.below(11);
             let histogram = SHAPES[index % SHAPES.len()](random, bins);
-            (0..=MOST_CLOSENESS + 2).map(move |closeness| fitting(histogram.clone(), closeness))
+            closenesses::every().map(move |closeness| fitting(histogram.clone(), closeness))
         })
         .collect()
 }
@@ -260,7 +261,7 @@ fn longest(random: &mut Random) -> Vec<ModesCase> {
         }
         for _ in 0..20 {
             let humps = 1 + random.below(3);
-            let closeness = random.within(0, MOST_CLOSENESS);
+            let closeness = closenesses::served(random);
             cases.push(fitting(
                 mode_shapes::smooth_humps(random, bins, humps),
                 closeness,
@@ -279,9 +280,22 @@ fn cloths(random: &mut Random) -> Vec<ModesCase> {
             let closeness = if random.coin() {
                 0
             } else {
-                random.within(0, MOST_CLOSENESS)
+                closenesses::served(random)
             };
             fitting(mode_shapes::cloth(random, bins), closeness)
         })
         .collect()
+}
+
+/// At the least closeness the bar of a stretch of 44 bins is just below 0, that of 45 just above. A ripple is so even that
+/// its runs are joined as soon as their bar allows it.
+fn around_a_bar_of_0(_: &mut Random) -> Vec<ModesCase> {
+    let mut cases = Vec::new();
+    for bins in 40..=56 {
+        for closeness in LEAST_CLOSENESS..LEAST_CLOSENESS + 3 {
+            let ripple = (0..bins).map(|bin| 10 + bin % 2).collect();
+            cases.push(fitting(ripple, closeness));
+        }
+    }
+    cases
 }

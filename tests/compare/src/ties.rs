@@ -1,7 +1,8 @@
 //! Stretches whose cost with an increasing fit is exactly 0 or next to it, found by search: at 0 a stretch is rejected.
 
 /// Cost, closeness, counts.
-pub const TIES: &[(i64, u32, &[u32])] = &[
+pub const TIES: &[(i64, i32, &[u32])] = &[
+    (0, -1, &[1, 0, 0]),
     (0, 4, &[58, 796, 678]),
     (0, 14, &[294, 164, 1442]),
     (0, 6, &[227, 141, 1722]),

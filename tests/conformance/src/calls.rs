@@ -13,13 +13,13 @@ pub enum Call {
     Verdict {
         histogram: Vec<u32>,
         rising: bool,
-        closeness: u32,
+        closeness: i32,
     },
     LineModes(Listing),
     RingModes(Listing),
     Card {
         pixels: Vec<u8>,
-        closeness: u32,
+        closeness: i32,
         labels: Vec<u8>,
     },
     PrintCard(Vec<u8>),
@@ -29,7 +29,7 @@ pub enum Call {
 /// What either call for modes is given.
 pub struct Listing {
     pub histogram: Vec<u32>,
-    pub closeness: u32,
+    pub closeness: i32,
     pub list: Vec<u32>,
 }
 

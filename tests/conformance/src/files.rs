@@ -94,7 +94,7 @@ fn agreed(call: &Call) -> Result<Answer, String> {
 }
 
 fn given_lines(call: &Call) -> String {
-    let one = |name, value: u32| numbers(name, &[value.into()], 1);
+    let one = |name, value: i32| numbers(name, &[value.into()], 1);
     match call {
         // A pixel stands in one line with its measures.
         Call::Measures(_) => String::new(),

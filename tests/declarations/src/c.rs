@@ -20,6 +20,7 @@ fn item(item: &Item) -> String {
         Item::U8 => "uint8_t".to_string(),
         Item::Bool => "bool".to_string(),
         Item::U32 => "uint32_t".to_string(),
+        Item::I32 => "int32_t".to_string(),
         Item::I64 => "int64_t".to_string(),
         Item::Struct(name) => format!("struct {}", struct_name(name)),
     }
@@ -103,7 +104,7 @@ fn call_check(call: &Call) -> String {
 const INCLUDES: &str = "#include \"kistrovu.h\"\n#include \"kistrovu.h\"\n";
 
 /// The checks in C: every struct, every call, and the named values.
-pub fn checks(source: &Source, values: &[(String, u64)]) -> String {
+pub fn checks(source: &Source, values: &[(String, i64)]) -> String {
     let structs = source.structs.iter();
     let values = values
         .iter()

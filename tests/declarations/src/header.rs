@@ -54,7 +54,7 @@ impl Header {
     pub fn agrees(
         &self,
         source: &Source,
-        values: &[(String, u64)],
+        values: &[(String, i64)],
         grounds: &Grounds,
     ) -> Result<(), String> {
         let calls = source.calls.iter().map(|call| call.name.clone());
@@ -86,20 +86,21 @@ impl Header {
 }
 
 /// The grounds whose words have the figure of a limit.
-const FIGURES: [(usize, &str); 5] = [
+const FIGURES: [(usize, &str); 6] = [
     (2, "KISTROVU_MOST_SWATCH_PIXELS"),
     (5, "KISTROVU_MOST_PIXELS"),
     (6, "KISTROVU_MOST_BINS"),
+    (8, "KISTROVU_LEAST_CLOSENESS"),
     (8, "KISTROVU_MOST_CLOSENESS"),
     (11, "KISTROVU_MOST_ENTRIES"),
 ];
 
-fn figures_agree(words: &[String], values: &[(String, u64)]) -> Result<(), String> {
+fn figures_agree(words: &[String], values: &[(String, i64)]) -> Result<(), String> {
     for (number, name) in FIGURES {
         let value = values.iter().find(|(other, _)| other == name);
         let (_, value) = value.ok_or(format!("{name} is not known"))?;
-        let figures = tokens(&words[number - 1].replace(',', ""));
-        if !figures.contains(&value.to_string()) {
+        let plain = words[number - 1].replace(',', "");
+        if !plain.split(' ').any(|word| word == value.to_string()) {
             return Err(format!("the words of ground {number} have not {name}"));
         }
     }
@@ -171,7 +172,7 @@ fn enumerator(line: &str) -> Result<Enumerator, String> {
 }
 
 /// The header's macros, and the figures of the source that they stand for.
-pub fn values(source: &Source) -> Result<Vec<(String, u64)>, String> {
+pub fn values(source: &Source) -> Result<Vec<(String, i64)>, String> {
     let named = |name: &str, value| (format!("KISTROVU_{name}"), value);
     let version = source.constant("VERSION")?;
     Ok(vec![
@@ -179,7 +180,8 @@ pub fn values(source: &Source) -> Result<Vec<(String, u64)>, String> {
         named("VERSION_MAJOR", version / 10_000),
         named("VERSION_MINOR", version / 100 % 100),
         named("VERSION_PATCH", version % 100),
-        named("MOST_BINS", source.length("FitAnswer", "sums")?),
+        named("MOST_BINS", source.length("FitAnswer", "sums")? as i64),
+        named("LEAST_CLOSENESS", source.constant("LEAST_CLOSENESS")?),
         named("MOST_CLOSENESS", source.constant("MOST_CLOSENESS")?),
         named("MOST_PIXELS", source.constant("MOST_PIXELS")?),
         named("MOST_ENTRIES", source.constant("MOST_ENTRIES")?),

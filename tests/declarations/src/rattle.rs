@@ -9,6 +9,7 @@ pub enum Item {
     U8,
     Bool,
     U32,
+    I32,
     I64,
     Struct(String),
 }
@@ -43,7 +44,7 @@ pub struct Call {
 
 #[derive(Clone, Debug, Default, PartialEq, Eq)]
 pub struct Source {
-    pub constants: BTreeMap<String, u64>,
+    pub constants: BTreeMap<String, i64>,
     pub structs: Vec<Struct>,
     pub calls: Vec<Call>,
 }
@@ -112,7 +113,9 @@ impl Source {
         let mut length = None;
         if array {
             cursor.expect(";")?;
-            length = Some(self.read_value(cursor)?);
+            let value = self.read_value(cursor)?;
+            let value = u64::try_from(value).map_err(|_| format!("{name} has a length below 0"))?;
+            length = Some(value);
             cursor.expect("]")?;
         }
         Ok(Field { name, item, length })
@@ -166,6 +169,7 @@ impl Source {
             "u8" => Ok(Item::U8),
             "bool" => Ok(Item::Bool),
             "u32" => Ok(Item::U32),
+            "i32" => Ok(Item::I32),
             "i64" => Ok(Item::I64),
             _ if self.known(&name).is_some() => Ok(Item::Struct(name)),
             _ => Err(format!("the type {name} is not known")),
@@ -175,8 +179,9 @@ impl Source {
     fn read_constant(&mut self, cursor: &mut Cursor) -> Result<(), String> {
         let name = cursor.word()?;
         cursor.expect(":")?;
-        if !cursor.passes("usize") {
-            cursor.expect("u32")?;
+        let kind = cursor.word()?;
+        if !["usize", "u32", "u64", "i32"].contains(&kind.as_str()) {
+            return Err(format!("{name}: the type {kind} is not known"));
         }
         cursor.expect("=")?;
         let value = self.read_value(cursor);
@@ -189,7 +194,7 @@ impl Source {
     }
 
     /// A sum of products of numbers and constants.
-    fn read_value(&self, cursor: &mut Cursor) -> Result<u64, String> {
+    fn read_value(&self, cursor: &mut Cursor) -> Result<i64, String> {
         let mut sum = 0;
         let mut product = self.read_factor(cursor)?;
         loop {
@@ -204,11 +209,13 @@ impl Source {
         }
     }
 
-    fn read_factor(&self, cursor: &mut Cursor) -> Result<u64, String> {
+    fn read_factor(&self, cursor: &mut Cursor) -> Result<i64, String> {
+        let sign = if cursor.passes("-") { -1 } else { 1 };
         let token = cursor.take();
         let number = token.parse().ok();
         number
             .or(self.constants.get(token).copied())
+            .map(|value: i64| sign * value)
             .ok_or(format!("the value {token} is not known"))
     }
 
@@ -217,7 +224,7 @@ impl Source {
         self.structs.iter().find(|made| made.name == name)
     }
 
-    pub fn constant(&self, name: &str) -> Result<u64, String> {
+    pub fn constant(&self, name: &str) -> Result<i64, String> {
         let found = self.constants.get(name).copied();
         found.ok_or(format!("the source has no constant {name}"))
     }

@@ -3,6 +3,7 @@
 use super::rattle::{Argument, Call, Field, Item, Source, Struct};
 use super::same;
 use super::tokens::{tokens, without_comments, Cursor};
+use std::fmt::Display;
 
 /// A flag that comes back is a byte there: nothing is assumed of what foreign code hands back.
 fn held(item: &Item) -> String {
@@ -17,6 +18,7 @@ fn handed(item: &Item) -> String {
         Item::U8 => "u8".to_string(),
         Item::Bool => "bool".to_string(),
         Item::U32 => "u32".to_string(),
+        Item::I32 => "i32".to_string(),
         Item::I64 => "i64".to_string(),
         Item::Struct(name) => format!("raw::{name}"),
     }
@@ -39,7 +41,7 @@ fn call_check(call: &Call) -> String {
     format!("const _: unsafe extern \"C\" fn({arguments}) -> {answer} = raw::{name};\n")
 }
 
-fn assertion(figure: &str, value: u64) -> String {
+fn assertion(figure: &str, value: impl Display) -> String {
     format!("const _: () = assert!({figure} == {value});\n")
 }
 
@@ -71,11 +73,11 @@ fn struct_checks(source: &Source, made: &Struct) -> String {
 }
 
 /// The checks: every struct, every call, and the named values.
-pub fn checks(source: &Source, values: &[(String, u64)]) -> String {
+pub fn checks(source: &Source, values: &[(String, i64)]) -> String {
     let structs = source.structs.iter();
     let values = values
         .iter()
-        .map(|(name, value)| assertion(&format!("raw::{name} as u64"), *value));
+        .map(|(name, value)| assertion(&format!("raw::{name} as i64"), value));
     structs
         .map(|made| struct_checks(source, made))
         .chain(source.calls.iter().map(call_check))
@@ -127,7 +129,7 @@ impl Raw {
     }
 
     /// The constants that are declared, and the figures that the header's macros of these names stand for.
-    pub fn values(&self, values: &[(String, u64)]) -> Result<Vec<(String, u64)>, String> {
+    pub fn values(&self, values: &[(String, i64)]) -> Result<Vec<(String, i64)>, String> {
         let known = |name: &String| {
             let macro_name = format!("KISTROVU_{name}");
             let found = values.iter().find(|(other, _)| *other == macro_name);

@@ -96,18 +96,18 @@ fn wrong_calls_are_refused() {
             "is_kistrovu_card",
         ),
         (
+            "bool rising, int32_t closeness",
             "bool rising, uint32_t closeness",
-            "bool rising, uint8_t closeness",
             "is_kistrovu_verdict",
         ),
         (
-            "bool rising, uint32_t closeness",
-            "uint32_t closeness, bool rising",
+            "bool rising, int32_t closeness",
+            "int32_t closeness, bool rising",
             "is_kistrovu_verdict",
         ),
         (
-            "size_t bytes, uint32_t closeness",
-            "uint32_t bytes, uint32_t closeness",
+            "size_t bytes, int32_t closeness",
+            "uint32_t bytes, int32_t closeness",
             "is_kistrovu_card",
         ),
         (
@@ -166,8 +166,8 @@ fn wrong_grounds_are_refused() {
             "numbers of the grounds",
         ),
         (
-            "closeness is larger than 20 */",
-            "closeness is larger than 21 */",
+            "closeness is below -10 or above 20 */",
+            "closeness is below -10 or above 21 */",
             "the words of KISTROVU_CLOSENESS",
         ),
         (

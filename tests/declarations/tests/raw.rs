@@ -132,8 +132,8 @@ fn wrong_constants_are_refused() {
             "raw::MOST_ENTRIES",
         ),
         (
-            "MOST_CLOSENESS: u32 = 20",
-            "MOST_CLOSENESS: u32 = 21",
+            "MOST_CLOSENESS: i32 = 20",
+            "MOST_CLOSENESS: i32 = 21",
             "raw::MOST_CLOSENESS",
         ),
         (

@@ -147,7 +147,7 @@ fn a_figure_in_words_is_held_to_its_macro() {
         .iter_mut()
         .find(|(_, text)| text.contains("const MOST_CLOSENESS"));
     let (_, text) = verdict.expect("the closeness has a limit");
-    *text = edited(text, "MOST_CLOSENESS: u32 = 20", "MOST_CLOSENESS: u32 = 19");
+    *text = edited(text, "MOST_CLOSENESS: i32 = 20", "MOST_CLOSENESS: i32 = 19");
     texts.header = edited(&texts.header, "MOST_CLOSENESS 20", "MOST_CLOSENESS 19");
     let folder = Path::new(env!("CARGO_TARGET_TMPDIR")).join("figures");
     fs::create_dir_all(&folder).expect("a folder can be made");

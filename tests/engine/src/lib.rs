@@ -19,25 +19,25 @@ pub fn fit(histogram: &mut [u32], rising: bool) -> FitAnswer {
     unsafe { raw::kistrovu_fit(histogram.as_mut_ptr(), histogram.len(), rising) }
 }
 
-pub fn verdict(histogram: &mut [u32], rising: bool, closeness: u32) -> VerdictAnswer {
+pub fn verdict(histogram: &mut [u32], rising: bool, closeness: i32) -> VerdictAnswer {
     // SAFETY: as in `fit`.
     unsafe { raw::kistrovu_verdict(histogram.as_mut_ptr(), histogram.len(), rising, closeness) }
 }
 
-type ModesCall = unsafe extern "C" fn(*const u32, usize, u32, *mut u32, usize) -> ModesAnswer;
+type ModesCall = unsafe extern "C" fn(*const u32, usize, i32, *mut u32, usize) -> ModesAnswer;
 
-pub fn line_modes(histogram: &mut [u32], closeness: u32, separators: &mut [u32]) -> ModesAnswer {
+pub fn line_modes(histogram: &mut [u32], closeness: i32, separators: &mut [u32]) -> ModesAnswer {
     modes(raw::kistrovu_line_modes, histogram, closeness, separators)
 }
 
-pub fn ring_modes(histogram: &mut [u32], closeness: u32, separators: &mut [u32]) -> ModesAnswer {
+pub fn ring_modes(histogram: &mut [u32], closeness: i32, separators: &mut [u32]) -> ModesAnswer {
     modes(raw::kistrovu_ring_modes, histogram, closeness, separators)
 }
 
 fn modes(
     call: ModesCall,
     histogram: &mut [u32],
-    closeness: u32,
+    closeness: i32,
     separators: &mut [u32],
 ) -> ModesAnswer {
     let (bins, len) = (histogram.as_mut_ptr(), histogram.len());
@@ -46,7 +46,7 @@ fn modes(
     unsafe { call(bins, len, closeness, list, places) }
 }
 
-pub fn card(pixels: &mut [u8], closeness: u32, labels: &mut [u8]) -> Card {
+pub fn card(pixels: &mut [u8], closeness: i32, labels: &mut [u8]) -> Card {
     let (start, bytes) = (pixels.as_mut_ptr(), pixels.len());
     let (list, places) = (labels.as_mut_ptr(), labels.len());
     // SAFETY: each pointer and length are those of one slice, lent for the time of the call; the two do not overlap.

@@ -7,7 +7,7 @@ use cloths::full_cards;
 use cloths::random::Random;
 use cloths::yarns::{woven, yarns};
 use compare::card_shapes::{self, CardShape};
-use reference::calls::{MOST_CLOSENESS, MOST_PIXELS};
+use reference::calls::{LEAST_CLOSENESS, MOST_CLOSENESS, MOST_PIXELS};
 use reference::cards::Pixel;
 
 const SEED: u64 = 106;
@@ -47,7 +47,7 @@ pub fn cases() -> Vec<Case> {
     all
 }
 
-fn case(what: impl Into<String>, pixels: Vec<u8>, closeness: u32, places: usize) -> Case {
+fn case(what: impl Into<String>, pixels: Vec<u8>, closeness: i32, places: usize) -> Case {
     let labels = unwritten_labels(places);
     Case::new(
         what,
@@ -60,7 +60,7 @@ fn case(what: impl Into<String>, pixels: Vec<u8>, closeness: u32, places: usize)
 }
 
 /// With as many labels as pixels.
-fn fitting(what: impl Into<String>, pixels: &[Pixel], closeness: u32) -> Case {
+fn fitting(what: impl Into<String>, pixels: &[Pixel], closeness: i32) -> Case {
     case(what, pixels.concat(), closeness, pixels.len())
 }
 
@@ -98,12 +98,17 @@ fn one_pixel() -> Vec<Case> {
 }
 
 /// Images that show one rule each: the rule, a closeness, and how many pixels there are of each colour.
-type Rule = (&'static str, u32, &'static [(Pixel, usize)]);
+type Rule = (&'static str, i32, &'static [(Pixel, usize)]);
 
 const RULES: &[Rule] = &[
     (
         "two greys that are too few to stand apart",
         0,
+        &[(BLACK, 1), (WHITE, 1)],
+    ),
+    (
+        "two greys that a lower closeness keeps apart",
+        -10,
         &[(BLACK, 1), (WHITE, 1)],
     ),
     ("two greys apart", 0, &[(BLACK, 20), (WHITE, 20)]),
@@ -238,16 +243,15 @@ fn pixel_counts() -> Vec<Case> {
 /// Ground 8 from both sides.
 fn closenesses() -> Vec<Case> {
     let pixels = runs(&[(BLACK, 20), (RED, 20), (WHITE, 20), (BLUE, 20)]);
-    let served = (0..=MOST_CLOSENESS).map(|closeness| ("every closeness", closeness));
+    let served =
+        (LEAST_CLOSENESS..=MOST_CLOSENESS).map(|closeness| ("every closeness", closeness));
     let refused = [
         ("closeness 21: ground 8", 21),
         ("a closeness that is 0 in 8 bits: ground 8", 1 << 8),
         ("a closeness that is 0 in 16 bits: ground 8", 1 << 16),
-        (
-            "a closeness that is negative as a signed number: ground 8",
-            1 << 31,
-        ),
-        ("the largest number as closeness: ground 8", u32::MAX),
+        ("closeness -11: ground 8", -11),
+        ("the least number as closeness: ground 8", i32::MIN),
+        ("the largest number as closeness: ground 8", i32::MAX),
     ];
     served
         .chain(refused)
@@ -309,7 +313,7 @@ fn entry_counts() -> Vec<Case> {
 
 /// Every choice of two or more of the grounds 4, 5, 8 and 9, and of none.
 fn grounds_at_once() -> Vec<Case> {
-    let close = MOST_CLOSENESS + 1;
+    let close = LEAST_CLOSENESS - 1;
     let (few, part, many) = (6, 7, 3 * MOST + 3);
     let long_part = many + 2;
     [
@@ -378,7 +382,7 @@ fn drawn() -> Vec<Case> {
             let closeness = if random.coin() {
                 0
             } else {
-                random.within(0, 6)
+                random.signed_within(LEAST_CLOSENESS, 6)
             };
             let what = format!("drawn: {name}, {} pixels", pixels.len());
             all.push(fitting(what, &pixels, closeness));

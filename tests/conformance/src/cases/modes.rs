@@ -7,7 +7,7 @@ use cloths::random::Random;
 use compare::mode_shapes;
 use compare::mode_ties::MODE_TIES;
 use compare::shapes::Shape;
-use reference::calls::{MOST_BINS, MOST_CLOSENESS};
+use reference::calls::{LEAST_CLOSENESS, MOST_BINS, MOST_CLOSENESS};
 
 const LINE_SEED: u64 = 104;
 const RING_SEED: u64 = 105;
@@ -19,12 +19,12 @@ const MOST_DRAWN: usize = 24;
 struct Asked {
     what: String,
     histogram: Vec<u32>,
-    closeness: u32,
+    closeness: i32,
     places: usize,
 }
 
 /// With as many places as bins.
-fn fitting((what, histogram): Named, closeness: u32) -> Asked {
+fn fitting((what, histogram): Named, closeness: i32) -> Asked {
     let places = histogram.len();
     Asked {
         what,
@@ -45,8 +45,11 @@ fn given(asked: Asked, call: fn(Listing) -> Call) -> Case {
 
 pub fn lines() -> Vec<Case> {
     let mut all = Vec::new();
-    all.push(sample("a sample", &[0, 1, 0, 1, 0], 0));
-    for closeness in [0, 13, 14] {
+    for closeness in [-10, -5, -4, 0] {
+        all.push(sample("a sample", &[0, 1, 0, 1, 0], closeness));
+    }
+    all.extend(ripples());
+    for closeness in [-10, 0, 13, 14] {
         let what = "a sample";
         all.push(sample(what, &[0, 20, 0, 20, 0], closeness));
     }
@@ -72,7 +75,8 @@ pub fn lines() -> Vec<Case> {
 
 pub fn rings() -> Vec<Case> {
     let mut all = Vec::new();
-    for closeness in [0, 13, 14] {
+    all.extend(ripples());
+    for closeness in [-10, 0, 13, 14] {
         let what = "a sample of a line, as a ring";
         all.push(sample(what, &[0, 1, 0, 1], closeness));
         all.push(sample(what, &[0, 20, 0, 20], closeness));
@@ -104,9 +108,20 @@ pub fn rings() -> Vec<Case> {
         .collect()
 }
 
-fn sample(what: &str, histogram: &[u32], closeness: u32) -> Asked {
+fn sample(what: &str, histogram: &[u32], closeness: i32) -> Asked {
     let what = format!("{what}, at closeness {closeness}");
     fitting((what, histogram.to_vec()), closeness)
+}
+
+/// So even that their runs are joined as soon as the bar is above 0: at -10 from 45 bins on.
+fn ripples() -> Vec<Asked> {
+    [42, 43, 44, 45, 46, 52]
+        .map(|bins| {
+            let counts = (0..bins).map(|bin| 10 + bin % 2).collect();
+            let what = format!("a ripple of {bins} bins at the least closeness");
+            fitting((what, counts), LEAST_CLOSENESS)
+        })
+        .into()
 }
 
 /// What lines and rings share: grounds, lists, and the histograms that tell. Two modes show how a list is written.
@@ -124,6 +139,8 @@ fn common(two_modes: &[u32]) -> Vec<Asked> {
 
 fn closenesses(two_modes: &[u32]) -> Vec<Asked> {
     [
+        ("closeness -10, the least", -10),
+        ("closeness -11: ground 8", -11),
         ("closeness 20, the largest", 20),
         ("closeness 21: ground 8", 21),
         ("a closeness that is 0 in 8 bits: ground 8", 1 << 8),
@@ -188,7 +205,7 @@ fn grounds_at_once() -> Vec<Asked> {
 }
 
 /// Histograms on which an engine that has misread a rule gives other separators: the rule, a closeness, the counts.
-type Rule = (&'static str, u32, &'static [u32]);
+type Rule = (&'static str, i32, &'static [u32]);
 
 const LINE_RULES: &[Rule] = &[
     ("the leftmost of equal runs is joined", 0, &[8, 1, 3, 1, 8]),
@@ -425,7 +442,7 @@ fn ties() -> Vec<Asked> {
     let mut all = Vec::new();
     for (index, &(cost, closeness, line)) in MODE_TIES.iter().enumerate() {
         let what = format!("as a line, at closeness {closeness}, joining costs {cost}");
-        for closeness in closeness.saturating_sub(1)..=closeness + 1 {
+        for closeness in closeness - 1..=closeness + 1 {
             all.push(fitting((what.clone(), line.to_vec()), closeness));
         }
         if index % 3 == 0 {
@@ -444,7 +461,7 @@ fn drawn(seed: u64, more: &[(&str, Shape)]) -> Vec<Asked> {
             let histogram = shape(&mut random, bins);
             let top = if random.coin() { 3 } else { MOST_CLOSENESS };
             let named = (format!("drawn: {name}, {bins} bins"), histogram);
-            let mut asked = fitting(named, random.within(0, top));
+            let mut asked = fitting(named, random.signed_within(LEAST_CLOSENESS, top));
             asked.places += random.below(3);
             all.push(asked);
         }
@@ -452,7 +469,7 @@ fn drawn(seed: u64, more: &[(&str, Shape)]) -> Vec<Asked> {
     for index in 0..12 {
         let bins = [42, 52, 60][index % 3];
         let what = format!("drawn: as a cloth gives it, {bins} bins");
-        let closeness = [0, 0, 0, 2, 10, 20][index / 2];
+        let closeness = [0, 0, -10, -4, 10, 20][index / 2];
         all.push(fitting(
             (what, mode_shapes::cloth(&mut random, bins)),
             closeness,

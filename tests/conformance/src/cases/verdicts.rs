@@ -6,16 +6,17 @@ use super::Case;
 use crate::calls::Call;
 use cloths::random::Random;
 use compare::ties::TIES;
-use reference::calls::MOST_CLOSENESS;
+use reference::calls::{LEAST_CLOSENESS, MOST_CLOSENESS};
 
 const SEED: u64 = 103;
 
 /// A histogram with what it is for, and a closeness.
-type Judged = (Named, u32);
+type Judged = (Named, i32);
 
 pub fn cases() -> Vec<Case> {
     let mut all = samples();
     all.extend(closenesses());
+    all.extend(steps());
     all.extend(limits().into_iter().map(|named| (named, 0)));
     all.extend(grounds_at_once());
     all.extend(telling().into_iter().map(|named| (named, 0)));
@@ -46,7 +47,7 @@ fn samples() -> Vec<Judged> {
         vec![0, 20, 0, 20],
         vec![20, 0, 20, 0],
     ] {
-        for closeness in [0, 13, 14] {
+        for closeness in [-4, 0, 13, 14] {
             let what = "a stretch of the samples".to_string();
             judged.push(((what, histogram.clone()), closeness));
         }
@@ -56,23 +57,44 @@ fn samples() -> Vec<Judged> {
 
 fn closenesses() -> Vec<Judged> {
     let histogram = vec![4, 9, 2, 7, 7, 1, 30];
-    let served = (0..=MOST_CLOSENESS).map(|closeness| ("every closeness".to_string(), closeness));
+    let served = (LEAST_CLOSENESS..=MOST_CLOSENESS)
+        .map(|closeness| ("every closeness".to_string(), closeness));
     let refused = [
+        ("closeness -11: ground 8", -11),
+        ("closeness -12: ground 8", -12),
         ("closeness 21: ground 8", 21),
         ("closeness 22: ground 8", 22),
         ("a closeness that is 0 in 8 bits: ground 8", 1 << 8),
         ("a closeness that is 0 in 16 bits: ground 8", 1 << 16),
         (
-            "a closeness that is negative as a signed number: ground 8",
-            1 << 31,
+            "a negative closeness that is 0 in 16 bits: ground 8",
+            -(1 << 16),
         ),
-        ("the largest closeness: ground 8", u32::MAX),
+        ("the least number as closeness: ground 8", i32::MIN),
+        ("the largest number as closeness: ground 8", i32::MAX),
     ];
     let refused = refused.map(|(what, closeness)| (what.to_string(), closeness));
     served
         .chain(refused)
         .map(|(what, closeness)| ((what, histogram.clone()), closeness))
         .collect()
+}
+
+/// Where the bar is 0 or less every cost is 0 or more, and only a step against the fit rejects.
+fn steps() -> Vec<Judged> {
+    let all: [(&str, i32, &[u32]); 9] = [
+        ("the bar is one bit, and the cost 0", -1, &[1, 0, 0]),
+        ("one step, with a bar below 0", -10, &[0, 1]),
+        ("equal bins have no step", -10, &[3, 3, 3]),
+        ("no counts have no step", -10, &[0, 0, 0, 0]),
+        ("a step each way", -10, &[2, 1, 2]),
+        ("only the first step falls", -10, &[2, 1, 1, 1, 3]),
+        ("only the last step falls", -10, &[1, 1, 2, 3, 2]),
+        ("a bar just below 0", -5, &[1, 2, 3, 4, 5, 6, 7]),
+        ("a bar just above 0", -5, &[1, 2, 3, 4, 5, 6, 7, 8]),
+    ];
+    all.map(|(what, closeness, counts)| ((what.to_string(), counts.to_vec()), closeness))
+        .to_vec()
 }
 
 fn grounds_at_once() -> Vec<Judged> {
@@ -82,7 +104,7 @@ fn grounds_at_once() -> Vec<Judged> {
         ("grounds 7 and 8 hold: 7 comes first", vec![65_536, 1]),
         ("ground 8 alone", vec![65_536, 0]),
     ]
-    .map(|(what, histogram)| ((what.to_string(), histogram), MOST_CLOSENESS + 1))
+    .map(|(what, histogram)| ((what.to_string(), histogram), LEAST_CLOSENESS - 1))
     .to_vec()
 }
 
@@ -105,7 +127,7 @@ fn ties() -> Vec<Judged> {
     for (index, &(cost, closeness, histogram)) in TIES.iter().enumerate() {
         let what = format!("increasing, at closeness {closeness}, the cost is {cost}");
         let named = (what, histogram.to_vec());
-        if index % 3 == 0 && closeness > 0 {
+        if index % 3 == 0 {
             judged.push((named.clone(), closeness - 1));
         }
         judged.push((named.clone(), closeness));
@@ -125,7 +147,8 @@ fn drawn() -> Vec<Judged> {
         for (name, shape) in SHAPES {
             let histogram = shape(&mut random, bins);
             let what = format!("drawn: {name}, {bins} bins");
-            found.push(((what, histogram), random.within(0, MOST_CLOSENESS)));
+            let closeness = random.signed_within(LEAST_CLOSENESS, MOST_CLOSENESS);
+            found.push(((what, histogram), closeness));
         }
     }
     for (name, shape) in &SHAPES[..4] {
