@@ -26,7 +26,7 @@ use Rattle.segmentation.proofs.OneMode.{one-mode}
 use Rattle.segmentation.proofs.FirstCut.{first-cut, first-humps, first-inside, first-counts}
 
 -- ---- behind every verdict of a part of a line
-part-length : (i j : ℕ) (h : List ℕ) → i ≤ j → j < length h → length (part i j h) ≡ suc j - i
+pub part-length : (i j : ℕ) (h : List ℕ) → i ≤ j → j < length h → length (part i j h) ≡ suc j - i
 unfolding part
 part-length i j h a b = length-take-le (suc j - i) (drop i h) (omega (arith, length-drop i h))
 

@@ -13,4 +13,5 @@ mod Searching
 mod Applied
 pub mod RingPlaces
 pub mod RingModes
+pub mod Loose
 mod Listed

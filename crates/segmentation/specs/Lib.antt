@@ -5,4 +5,5 @@ pub mod Inside
 pub mod Walk
 pub mod Ring
 pub mod Finished
+pub mod Loose
 pub mod Runs

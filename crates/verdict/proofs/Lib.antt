@@ -9,6 +9,7 @@ mod Caps
 pub mod Clause
 pub mod Settings
 pub mod Monotone
+pub mod Whole
 pub mod Band
 pub mod Sound
 pub mod Difference
