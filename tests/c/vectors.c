@@ -426,7 +426,7 @@ static bool verdict_holds(const struct reader *reader, size_t *cases)
     const struct field *histogram = field_at(reader, 0, "histogram");
     uint32_t *lent = words_of(histogram, allocate(histogram->count * sizeof *lent));
     bool rising = value_at(reader, 1, "rising") != 0;
-    uint32_t closeness = (uint32_t)value_at(reader, 2, "closeness");
+    int32_t closeness = (int32_t)value_at(reader, 2, "closeness");
     struct kistrovu_verdict_answer found = kistrovu_verdict(lent, histogram->count, rising, closeness);
     bool hold = same_value(reader, 3, "number", found.number)
         && same_value(reader, 4, "cost", found.verdict.cost)
@@ -437,7 +437,7 @@ static bool verdict_holds(const struct reader *reader, size_t *cases)
     return hold;
 }
 
-typedef struct kistrovu_modes_answer modes_call(const uint32_t *, size_t, uint32_t, uint32_t *, size_t);
+typedef struct kistrovu_modes_answer modes_call(const uint32_t *, size_t, int32_t, uint32_t *, size_t);
 
 static int by_size(const void *a, const void *b)
 {
@@ -449,7 +449,7 @@ static int by_size(const void *a, const void *b)
 static bool modes_hold(const struct reader *reader, modes_call *call, bool sorting)
 {
     const struct field *histogram = field_at(reader, 0, "histogram");
-    uint32_t closeness = (uint32_t)value_at(reader, 1, "closeness");
+    int32_t closeness = (int32_t)value_at(reader, 1, "closeness");
     const struct field *list = field_at(reader, 2, "list");
     uint32_t *bins = words_of(histogram, allocate(histogram->count * sizeof *bins));
     struct lent lent;
@@ -495,7 +495,7 @@ static bool same_entries(const struct reader *reader, const struct field *kept, 
 static bool card_holds(const struct reader *reader, size_t *cases)
 {
     const struct field *pixels = field_at(reader, 0, "pixels");
-    uint32_t closeness = (uint32_t)value_at(reader, 1, "closeness");
+    int32_t closeness = (int32_t)value_at(reader, 1, "closeness");
     const struct field *labels = field_at(reader, 2, "labels");
     uint8_t *bytes = bytes_of(pixels, allocate(pixels->count));
     struct lent lent;

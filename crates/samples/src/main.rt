@@ -156,6 +156,20 @@ fn zeros() {
     modes(m, 20, &list[..3]);
 }
 
+// So even a ripple that its 26 humps are joined as soon as the bar allows it, which at the least closeness is from 45 bins on.
+fn ripple(closeness: i32) {
+    let mut bins = [10u32; 52];
+    let mut i = 1;
+    while i < 52 {
+        bins[i] = 11;
+        i += 2;
+    }
+    let mut list = [0u32; 52];
+    let m = kistrovu_line_modes(&bins, closeness, &mut list);
+    text(b"line of 26 humps in 52 bins");
+    modes(m, closeness, &list[..3]);
+}
+
 fn starred() {
     measures(13, 9, 0);
     measures(13, 10, 0);
@@ -175,7 +189,10 @@ fn starred() {
 fn others() {
     line(&[5, 5, 5, 5, 5, 5, 5, 5, 5], 0);
     line(&[0, 0], 21);
+    line(&[0, 0], -11);
+    line(&[0, 1, 0, 1, 0], -10);
     zeros();
+    ripple(-10);
     ring(&[9, 1, 9, 0, 9, 0], 0);
     ring(&[32768, 32768], 20);
 }

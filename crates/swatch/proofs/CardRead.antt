@@ -8,7 +8,6 @@ use native.Mathlib.Nat.{mul-add-div}
 use lib.Dec.{leb→le}
 use lib.IntN.{pos}
 use lib.ListN.{length, getD}
-use lib.Signed.{_≤ℤ_}
 use Rattle.lists.specs.Lists.{whole}
 use Rattle.lists.proofs.Each.{Each, each-from, each-at, each-so}
 use Rattle.lists.proofs.Flattened.{flat-map-map, each-map}

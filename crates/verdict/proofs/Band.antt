@@ -2,7 +2,7 @@
 -- Each logarithm is off by less than 2 units, and a weight has N of them on either side. Assumes nothing.
 use Prim.Native.Nat.{ℕ, zero, suc, _+_, _*_, _-_, _/_, _^_, _≤_, _<_}
 use mathlib.Core.Path.{_≡_, refl, sym, ap, _∙_}
-use mathlib.Core.Bool.{Bool, true, false, not, _&&_}
+use mathlib.Core.Bool.{Bool, true, false, _&&_}
 use mathlib.Core.List.{List}
 use lib.Dec.{leb}
 use lib.ListN.{length}
@@ -11,7 +11,7 @@ use lib.Signed.{leZ}
 use lib.Pow.{pow-add, pow-pos, pow-mono, pow-lt}
 use native.Mathlib.Omega.{arith}
 use native.Mathlib.Nat.{mul-comm, mul-le-mul, mul-le-mul-left, mul-le-mul-right, mul-lt-mul-of-pos-right, le-trans, le-of-eq, le-of-lt, lt-of-le-of-lt, lt-of-lt-of-le, pow-zero, zero-mul, pow-le-pow-left}
-use borrow.Author.Tests.{leb-true, leb-false, le-leb}
+use borrow.Author.Tests.{leb-true, leb-false}
 use Rattle.lists.specs.Lists.{total, part}
 use Rattle.lists.proofs.Powers.{mul-pow, pow-pow, pow-swap}
 use Rattle.lists.proofs.Connectives.{both-true}

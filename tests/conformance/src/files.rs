@@ -94,7 +94,7 @@ fn agreed(call: &Call) -> Result<Answer, String> {
 }
 
 fn given_lines(call: &Call) -> String {
-    let one = |name, value: i32| numbers(name, &[value.into()], 1);
+    let one = |name, value: i64| numbers(name, &[value], 1);
     match call {
         // A pixel stands in one line with its measures.
         Call::Measures(_) => String::new(),
@@ -108,11 +108,11 @@ fn given_lines(call: &Call) -> String {
         } => {
             numbers("histogram", &wide(histogram), 1)
                 + &one("rising", (*rising).into())
-                + &one("closeness", *closeness)
+                + &one("closeness", (*closeness).into())
         }
         Call::LineModes(given) | Call::RingModes(given) => {
             numbers("histogram", &wide(&given.histogram), 1)
-                + &one("closeness", given.closeness)
+                + &one("closeness", given.closeness.into())
                 + &numbers("list", &wide(&given.list), 1)
         }
         Call::Card {
@@ -121,11 +121,11 @@ fn given_lines(call: &Call) -> String {
             labels,
         } => {
             numbers("pixels", &wide(pixels), 3)
-                + &one("closeness", *closeness)
+                + &one("closeness", (*closeness).into())
                 + &numbers("labels", &wide(labels), 1)
         }
         Call::PrintCard(bytes) => text("text", bytes),
-        Call::PrintGround(ground) => one("ground", *ground),
+        Call::PrintGround(ground) => one("ground", (*ground).into()),
     }
 }
 

@@ -1,5 +1,4 @@
 -- `at` is safe and ends: a closeness of 32 bits fits 64. Assumes nothing.
-use Prim.Native.Nat.{_^_, _<_}
 use native.Mathlib.Omega.{arith}
 use borrow.Author.Needs.{needs}
 use mir.Syntax.{w32}

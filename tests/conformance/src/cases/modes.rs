@@ -146,10 +146,11 @@ fn closenesses(two_modes: &[u32]) -> Vec<Asked> {
         ("a closeness that is 0 in 8 bits: ground 8", 1 << 8),
         ("a closeness that is 0 in 16 bits: ground 8", 1 << 16),
         (
-            "a closeness that is negative as a signed number: ground 8",
-            1 << 31,
+            "a negative closeness that is 0 in 16 bits: ground 8",
+            -(1 << 16),
         ),
-        ("the largest number as closeness: ground 8", u32::MAX),
+        ("the least number as closeness: ground 8", i32::MIN),
+        ("the largest number as closeness: ground 8", i32::MAX),
     ]
     .map(|(what, closeness)| fitting((what.to_string(), two_modes.to_vec()), closeness))
     .into()
@@ -485,7 +486,7 @@ fn longest(seed: u64) -> Vec<Asked> {
     for humps in 1..=3 {
         let what = format!("drawn: smooth humps, {humps} in 256 bins");
         let histogram = mode_shapes::smooth_humps(&mut random, MOST_BINS, humps);
-        all.push(fitting((what, histogram), 3 * humps as u32));
+        all.push(fitting((what, histogram), 3 * humps as i32));
     }
     let alternating = [0, 1].repeat(MOST_BINS / 2);
     let what = "as many segments as 256 bins can have".to_string();

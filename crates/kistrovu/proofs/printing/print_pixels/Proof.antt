@@ -8,7 +8,6 @@ use lib.IntN.{pos}
 use lib.ListN.{length, take, getD}
 use Rattle.lists.specs.Lists.{over}
 use Rattle.verdict.specs.Test.{Closeness, leastCloseness, mostCloseness}
-use Rattle.verdict.specs.Settings.{closenessOf}
 use Rattle.palette.specs.declared.Entry.{Entry}
 use Rattle.making.specs.declared.CardEntries.{CardEntries}
 use Rattle.making.specs.Making.{cardEntries}

@@ -1,5 +1,5 @@
 -- `step_against` meets its contract: at every turn the bins up to bin i − 1 have no step against the direction. Assumes nothing.
-use mathlib.Core.Path.{_≡_, sym, _∙_}
+use mathlib.Core.Path.{sym, _∙_}
 use Prim.Native.Nat.{_≤_, _-_}
 use lib.ListN.{length}
 use native.Mathlib.Omega.{arith}

@@ -1,6 +1,6 @@
 -- `capped_cost` meets its contract: the tables are those of the stretch, and the limit is the cap and the bar. Assumes nothing.
 use mathlib.Core.Path.{_≡_, ap₂, _∙_}
-use Prim.Native.Nat.{_^_, _≤_, _<_}
+use Prim.Native.Nat.{_^_, _<_}
 use native.Mathlib.Omega.{arith}
 use lib.ListN.{length}
 use lib.IntN.{ℤ, _+ℤ_}

@@ -3,7 +3,7 @@ use mathlib.Core.Path.{_≡_, ap, ap₂, sym, _∙_}
 use Prim.Native.Nat.{ℕ, suc, _+_, _*_, _/_}
 use native.Mathlib.Numerals.{add-one}
 use native.Mathlib.Omega.{arith}
-use lib.IntN.{ℤ, subℕ}
+use lib.IntN.{subℕ}
 use borrow.Author.Needs.{needs}
 use Rattle.logarithm.specs.Log.{lg, unitsPerBit}
 use Rattle.verdict.specs.Settings.{settingsBelow}
