@@ -54,7 +54,7 @@ extern "C" {
 /* ---- the version of this header and, from the call, that of the library. If the two differ, the program was linked with
  * another release. Major: a declaration, a number or a figure's meaning changed. Minor: something was added. */
 
-#define KISTROVU_VERSION_MAJOR 3
+#define KISTROVU_VERSION_MAJOR 4
 #define KISTROVU_VERSION_MINOR 0
 #define KISTROVU_VERSION_PATCH 0
 #define KISTROVU_VERSION (10000 * KISTROVU_VERSION_MAJOR + 100 * KISTROVU_VERSION_MINOR + KISTROVU_VERSION_PATCH)

@@ -42,7 +42,7 @@ pub fn cloths() -> Vec<Cloth> {
 /// Several closenesses, though only one is timed.
 pub fn wrong(cloth: &Cloth) -> Option<String> {
     let bytes = cloth.swatch.bytes();
-    for closeness in [CLOSENESS, 7, 20] {
+    for closeness in [CLOSENESS, -10, 7, 20] {
         let mut labels = vec![0; cloth.swatch.pixels.len()];
         let expected = reference::calls::card(&bytes, closeness, &mut labels);
         let (fast, fast_labels) = fast_card(&bytes, closeness);
@@ -58,7 +58,7 @@ pub fn wrong(cloth: &Cloth) -> Option<String> {
     None
 }
 
-fn fast_card(bytes: &[u8], closeness: u32) -> (CardAnswer, Vec<u8>) {
+fn fast_card(bytes: &[u8], closeness: i32) -> (CardAnswer, Vec<u8>) {
     let mut labels = vec![0; bytes.len() / 3];
     let answer = fast_cards::card(bytes, closeness, &mut labels, &mut Scratch::default());
     (answer, labels)

@@ -72,7 +72,7 @@ pub fn fit(histogram: &[u32], rising: bool) -> ([u32; MOST_BINS], [u32; MOST_BIN
     (sums, lengths)
 }
 
-pub fn verdict(histogram: &[u32], rising: bool, closeness: u32) -> (i64, bool) {
+pub fn verdict(histogram: &[u32], rising: bool, closeness: i32) -> (i64, bool) {
     let total = total(histogram);
     // The whole stretch weighs 0, and so does a part whose fitted mass is its count.
     let mut largest = 0;
@@ -82,7 +82,13 @@ pub fn verdict(histogram: &[u32], rising: bool, closeness: u32) -> (i64, bool) {
         }
     });
     let cost = largest - bar(histogram, closeness);
-    (cost, cost >= 0)
+    (cost, cost >= 0 && has_step_against(histogram, rising))
+}
+
+/// A bin is followed by a lower one, or by a higher one if the fit falls.
+fn has_step_against(histogram: &[u32], rising: bool) -> bool {
+    let against = |pair: &[u32]| if rising { pair[1] < pair[0] } else { pair[0] < pair[1] };
+    histogram.windows(2).any(against)
 }
 
 /// The cost where that is below the cap, else a number at or above the cap: the search ends at the first part that
@@ -90,7 +96,7 @@ pub fn verdict(histogram: &[u32], rising: bool, closeness: u32) -> (i64, bool) {
 fn capped_cost(
     histogram: &[u32],
     rising: bool,
-    closeness: u32,
+    closeness: i32,
     cap: i64,
     stack: &mut [Block; MOST_BINS],
 ) -> i64 {
@@ -135,9 +141,9 @@ fn total(histogram: &[u32]) -> u64 {
     histogram.iter().map(|&bin| u64::from(bin)).sum()
 }
 
-fn bar(histogram: &[u32], closeness: u32) -> i64 {
+fn bar(histogram: &[u32], closeness: i32) -> i64 {
     let bins = histogram.len() as u64;
-    (lg([bins * (bins + 1) / 2])[0] + (u64::from(closeness) << ROUNDS)) as i64
+    lg([bins * (bins + 1) / 2])[0] as i64 + (i64::from(closeness) << ROUNDS)
 }
 
 /// How many parts there are, and how many of them need no logarithm.
@@ -271,7 +277,7 @@ struct Join {
 }
 
 /// How many separators there are; they are the first places of the list, which has one for each bin or more.
-pub fn line_modes(histogram: &[u32], closeness: u32, list: &mut [u32]) -> usize {
+pub fn line_modes(histogram: &[u32], closeness: i32, list: &mut [u32]) -> usize {
     let mut segments = first_segments(histogram);
     let mut stack = [NO_BLOCK; MOST_BINS];
     let mut cost = |bins: RangeInclusive<usize>, rising, cap| {

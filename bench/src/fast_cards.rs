@@ -81,7 +81,7 @@ pub struct Scratch {
 /// The answer to a call that can be turned down only for its number of entries. Never put into its caller, so that its
 /// instructions can be counted.
 #[inline(never)]
-pub fn card(bytes: &[u8], closeness: u32, labels: &mut [u8], scratch: &mut Scratch) -> CardAnswer {
+pub fn card(bytes: &[u8], closeness: i32, labels: &mut [u8], scratch: &mut Scratch) -> CardAnswer {
     let pixels = bytes.len() / 3;
     let Scratch {
         bins,
@@ -229,7 +229,7 @@ fn hue(r: i32, g: i32, b: i32) -> u8 {
 }
 
 /// Numbers the modes of a line from `first` on, gives each bin the number of its mode, and says how many there are.
-fn line_table(counts: &[u32], closeness: u32, first: usize, table: &mut [u16]) -> usize {
+fn line_table(counts: &[u32], closeness: i32, first: usize, table: &mut [u16]) -> usize {
     let mut list = [0; HUES + 1];
     let modes = line_modes(counts, closeness, &mut list) - 1;
     for mode in 0..modes {
@@ -239,7 +239,7 @@ fn line_table(counts: &[u32], closeness: u32, first: usize, table: &mut [u16]) -
 }
 
 /// The same for the ring of hues, from 1 on.
-fn ring_table(counts: &[u32], closeness: u32, table: &mut [u16]) -> usize {
+fn ring_table(counts: &[u32], closeness: i32, table: &mut [u16]) -> usize {
     let opening = (0..HUES).min_by_key(|&bin| counts[bin]).unwrap_or(0);
     let mut line = [0; HUES + 1];
     for (place, count) in line.iter_mut().enumerate() {

@@ -32,7 +32,7 @@ const LEAST_ROUNDS: f64 = 5.0;
 const ROUND_NANOSECONDS: f64 = 4e6;
 /// Calls that take longer than a round get fewer rounds.
 const CASE_NANOSECONDS: f64 = 4e9;
-pub const CLOSENESS: u32 = 0;
+pub const CLOSENESS: i32 = 0;
 const RISING: bool = true;
 
 fn main() -> ExitCode {
@@ -103,7 +103,7 @@ fn wrong_fit(case: &Case) -> Option<String> {
 /// Both directions and several closenesses, though only one of each is timed.
 fn wrong_verdict(case: &Case) -> Option<String> {
     for rising in [true, false] {
-        for closeness in [CLOSENESS, 7, 20] {
+        for closeness in [CLOSENESS, -10, 7, 20] {
             let expected = reference::calls::verdict(&case.histogram, rising, closeness);
             let (cost, rejected) = fast::verdict(&case.histogram, rising, closeness);
             let answer = engine::verdict(&mut case.histogram.clone(), rising, closeness);
@@ -120,7 +120,7 @@ fn wrong_verdict(case: &Case) -> Option<String> {
 /// Several closenesses, though only one is timed.
 fn wrong_line(case: &LineCase) -> Option<String> {
     let LineCase { line, smaller } = case;
-    for closeness in [CLOSENESS, 7, 20] {
+    for closeness in [CLOSENESS, -10, 7, 20] {
         let mut list = vec![0; smaller.len()];
         let expected = reference::calls::line_modes(smaller, closeness, &mut list);
         list.truncate(expected.separators as usize);
@@ -144,7 +144,7 @@ fn wrong_line(case: &LineCase) -> Option<String> {
     (!same).then(|| format!("modes of {}: the two differ", line.name))
 }
 
-fn fast_separators(histogram: &[u32], closeness: u32) -> Vec<u32> {
+fn fast_separators(histogram: &[u32], closeness: i32) -> Vec<u32> {
     let mut list = vec![0; histogram.len()];
     let count = fast::line_modes(histogram, closeness, &mut list);
     list.truncate(count);
@@ -152,7 +152,7 @@ fn fast_separators(histogram: &[u32], closeness: u32) -> Vec<u32> {
 }
 
 /// None when the call is turned down: a line has two separators or more.
-fn engine_separators(histogram: &[u32], closeness: u32) -> Vec<u32> {
+fn engine_separators(histogram: &[u32], closeness: i32) -> Vec<u32> {
     let mut list = vec![0; histogram.len()];
     let answer = engine::line_modes(&mut histogram.to_vec(), closeness, &mut list);
     list.truncate(answer.separators as usize);
