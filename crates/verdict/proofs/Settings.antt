@@ -26,7 +26,9 @@ down (negsuc n) = suc n
 
 pub bar-split : (e : Closeness) (l : ℕ) → bar e l ≡ subℕ (lg (l * suc l / 2) + up e * unitsPerBit) (down e * unitsPerBit)
 unfolding bar up down
-bar-split (pos n) l = sym (ap (λ (k : ℕ). subℕ (lg (l * suc l / 2) + n * unitsPerBit) k) (zero-mul unitsPerBit) ∙ diff-above (lg (l * suc l / 2) + n * unitsPerBit) 0 (omega arith) ∙ ap pos (omega arith))
+bar-split (pos n) l =
+    let raised = lg (l * suc l / 2) + n * unitsPerBit in
+    sym (ap (subℕ raised) (zero-mul unitsPerBit) ∙ diff-above raised 0 (omega arith) ∙ ap pos (omega arith))
 bar-split (negsuc n) l =
     difference-is (lg (l * suc l / 2)) (suc n * unitsPerBit)
     ∙ ap (λ (k : ℕ). subℕ k (suc n * unitsPerBit)) (sym (ap (λ (k : ℕ). lg (l * suc l / 2) + k) (zero-mul unitsPerBit) ∙ add-zero (lg (l * suc l / 2))))
@@ -76,19 +78,16 @@ unfolding leastCloseness mostCloseness lastSetting settingsBelow closenessOf
 counted-from-least (pos n) o =
     let l : n ≤ 20 = leb→le n 20 (o .most .le) in
     record {
-      setting = n + 10;
+      setting = n + settingsBelow;
       counted = refl;
       within = omega arith;
-      back = same-difference (n + 10) 10 n 0 (omega arith) ∙ diff-above n 0 (omega arith) ∙ ap pos (omega arith);
+      back = diff-above (n + settingsBelow) settingsBelow (omega arith) ∙ ap pos (omega arith);
     }
 counted-from-least (negsuc n) o =
     let l : n ≤ 9 = leb→le n 9 (o .least .le) in
     record {
-      setting = 10 - suc n;
-      counted = diff-above 10 (suc n) (omega arith);
+      setting = settingsBelow - suc n;
+      counted = diff-above settingsBelow (suc n) (omega arith);
       within = omega arith;
-      back = same-difference (10 - suc n) 10 0 (suc n) (omega arith) ∙ sym (minus n);
+      back = by-sign (λ (z : ℤ). z ≡ negsuc n) (settingsBelow - suc n) settingsBelow (λ h. absurd (omega arith)) (λ h. ap negsuc (omega arith));
     }
-  where
-    minus : (n : ℕ) → negsuc n ≡ subℕ 0 (suc n)
-    minus n = by-sign (λ (z : ℤ). negsuc n ≡ z) 0 (suc n) (λ h. absurd (omega arith)) (λ h. ap negsuc (omega arith))
