@@ -26,12 +26,12 @@ down (negsuc n) = suc n
 
 pub bar-split : (e : Closeness) (l : ℕ) → bar e l ≡ subℕ (lg (l * suc l / 2) + up e * unitsPerBit) (down e * unitsPerBit)
 unfolding bar up down
-bar-split (pos n) l =
-    let raised = lg (l * suc l / 2) + n * unitsPerBit in
-    sym (ap (subℕ raised) (zero-mul unitsPerBit) ∙ diff-above raised 0 (omega arith) ∙ ap pos (omega arith))
 bar-split (negsuc n) l =
     difference-is (lg (l * suc l / 2)) (suc n * unitsPerBit)
     ∙ ap (λ (k : ℕ). subℕ k (suc n * unitsPerBit)) (sym (ap (λ (k : ℕ). lg (l * suc l / 2) + k) (zero-mul unitsPerBit) ∙ add-zero (lg (l * suc l / 2))))
+bar-split (pos n) l =
+    let raised = lg (l * suc l / 2) + n * unitsPerBit in
+    sym (ap (subℕ raised) (zero-mul unitsPerBit) ∙ diff-above raised 0 (omega arith) ∙ ap pos (omega arith))
 
 one-power : 1 ^ unitsPerBit ≡ 2 ^ (0 * unitsPerBit)
 one-power = ap (λ (k : ℕ). k ^ unitsPerBit) (sym (pow-zero 2)) ∙ pow-pow 2 0 unitsPerBit
