@@ -3,7 +3,7 @@ use mathlib.Core.Bool.{true, false}
 use mathlib.Core.List.{List, [], _∷_}
 use lib.IntN.{pos}
 use Rattle.pooling.specs.Blocks.{increasing, decreasing}
-use Rattle.samples.specs.Rows.{Sample, measures, logarithm, fit, mass, verdict, asked, line, modes, inLine, ring, minus, block, mode, AllHold}
+use Rattle.samples.specs.Rows.{Sample, measures, logarithm, fit, mass, verdict, asked, line, modes, inLine, ring, dip, minus, block, mode, AllHold}
 
 abbrev pub guards : List Sample
 guards =
@@ -59,6 +59,9 @@ guards =
     -- one step against the fit is enough, the first or the last
     ∷ verdict (minus 10) increasing (2 ∷ 1 ∷ 2 ∷ []) (pos 510071348) true
     ∷ verdict (minus 10) decreasing (2 ∷ 1 ∷ 2 ∷ []) (pos 510071348) true
+    -- at −10 nothing joins in 44 bins; a stretch of 45 has a bar above 0
+    ∷ line (minus 10) (dip 22 21) (0 ∷ 22 ∷ 43 ∷ [])
+    ∷ line (minus 10) (dip 22 22) (0 ∷ 44 ∷ [])
     -- −10 to 20 are served, and no other closeness
     ∷ asked (minus 11) (0 ∷ 1 ∷ []) 8
     ∷ asked (minus 10) (0 ∷ 1 ∷ []) 0

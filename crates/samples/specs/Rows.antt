@@ -2,9 +2,9 @@
 use Prim.Native.Nat.{ℕ}
 use mathlib.Core.Path.{_≡_}
 use mathlib.Core.Bool.{Bool}
-use mathlib.Core.List.{List, map}
+use mathlib.Core.List.{List, _∷_, _++_, map}
 use lib.IntN.{ℤ, pos, negℤ}
-use lib.ListN.{length}
+use lib.ListN.{length, replicate}
 use Rattle.lists.specs.Lists.{numbers, firstThat, maybe}
 use Rattle.pixel.specs.declared.Pixel.{Pixel}
 use Rattle.pixel.specs.declared.Measures.{Measures}
@@ -39,6 +39,10 @@ pub data Sample : Type 0 where
   inLine : Closeness → (bins : List ℕ) → (m b : ℕ) → Bool → Sample
   -- the separators of a ring from its opening on, and each bin's mode
   ring : Closeness → (bins : List ℕ) → (separators : List ℕ) → (modes : List ℕ) → Sample
+
+-- so many bins of 1,000, one of 999, and so many of 1,000: two segments, hardly apart
+abbrev pub dip : ℕ → ℕ → List ℕ
+dip before after = replicate before 1000 ++ 999 ∷ replicate after 1000
 
 -- minus n, for a closeness or a cost
 abbrev pub minus : ℕ → ℤ
