@@ -120,7 +120,7 @@ struct kistrovu_fit_answer kistrovu_fit(const uint32_t *histogram, size_t bins, 
  * it has a step against the fit: for an increasing fit from a bin to a lower one, for a decreasing fit to a higher one.
  * Without such a step it is accepted, whatever it costs. So a cost of 0 or more does not by itself mean a rejection.
  *
- * Closeness is from KISTROVU_LEAST_CLOSENESS to KISTROVU_MOST_CLOSENESS, and each 1 of it takes one bit off every cost.
+ * Closeness is from KISTROVU_LEAST_CLOSENESS to KISTROVU_MOST_CLOSENESS; one more takes one bit off every cost.
  * A larger closeness rejects less and joins modes more readily: as a rule a card has fewer entries. A smaller one is
  * looser: less evidence keeps two modes apart, and as a rule a card has more entries. A stretch of L bins has a bar of
  * log2(L(L+1)/2) + closeness bits; where that is 0 or less, nothing joins. At -10 this is so for up to 44 bins, so that the

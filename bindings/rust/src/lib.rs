@@ -32,7 +32,7 @@
 //!
 //! A *swatch* is the scan of a piece of cloth: the program reads it as text, and the card call takes its pixels. The
 //! *closeness* e, [`LEAST_CLOSENESS`](raw::LEAST_CLOSENESS) to [`MOST_CLOSENESS`](raw::MOST_CLOSENESS), says how much
-//! evidence it takes to keep two modes apart: the bar of the test rises by a bit with each 1 of it. A larger closeness
+//! evidence it takes to keep two modes apart: one more raises the bar of the test by one bit. A larger closeness
 //! gives fewer entries as a rule, a smaller one is looser and gives more. The bar of a stretch of L bins is
 //! log2(L(L+1)/2) + e bits; where that is 0 or less, nothing joins. At −10 this is so for up to 44 bins: the 42 of
 //! saturation then have a mode for every hump, while runs over more than 44 bins of intensity or hue can still be joined.

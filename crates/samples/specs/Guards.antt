@@ -41,7 +41,7 @@ guards =
     ∷ verdict (pos 0) increasing (20 ∷ 0 ∷ []) (pos 1235812248) true
     -- a cost of exactly 0 rejects
     ∷ verdict (pos 0) increasing (155 ∷ 1183 ∷ 1090 ∷ []) (pos 0) true
-    -- each step of the closeness raises the bar by one bit
+    -- one more closeness raises the bar by one bit
     ∷ verdict (pos 1) increasing (155 ∷ 1183 ∷ 1090 ∷ []) (minus 67108864) false
     -- a stretch that is monotone in the tested direction costs minus the bar
     ∷ verdict (pos 0) increasing (1 ∷ 2 ∷ 2 ∷ []) (minus 173473896) false

@@ -7,6 +7,9 @@ use kistrovu::kistrovu_measures;
 use kistrovu::kistrovu_ring_modes;
 use kistrovu::kistrovu_verdict;
 
+// The bins of the line in `ripple`.
+const RIPPLE: usize = 52;
+
 fn text(bytes: &[u8]) {
     io::write_all(1, bytes);
 }
@@ -156,15 +159,16 @@ fn zeros() {
     modes(m, 20, &list[..3]);
 }
 
-// So even a ripple that its 26 humps are joined as soon as the bar allows it, which at the least closeness is from 45 bins on.
+// 26 humps, all alike and hardly higher than the bins between them. At the least closeness a bar is above 0 from 45 bins on, so runs over
+// enough of these bins can be joined.
 fn ripple(closeness: i32) {
-    let mut bins = [10u32; 52];
+    let mut bins = [10u32; RIPPLE];
     let mut i = 1;
-    while i < 52 {
+    while i < RIPPLE {
         bins[i] = 11;
         i += 2;
     }
-    let mut list = [0u32; 52];
+    let mut list = [0u32; RIPPLE];
     let m = kistrovu_line_modes(&bins, closeness, &mut list);
     text(b"line of 26 humps in 52 bins");
     modes(m, closeness, &list[..3]);

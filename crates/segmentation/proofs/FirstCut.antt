@@ -20,7 +20,7 @@ use Rattle.segmentation.specs.Joining.{lineReader, riseOf, fallOf}
 use Rattle.segmentation.specs.Finished.{Cut, SingleHump}
 use Rattle.segmentation.specs.Inside.{Inside, modeCount}
 use Rattle.segmentation.proofs.FirstHumps.{peakOf, peak-from, peak-to, climbs, falls, peak-above-end, peak-above-start, peak-after-start, peak-before-end}
-use Rattle.verdict.proofs.Clause.{monotone-kept}
+use Rattle.verdict.proofs.Ordered.{monotone-kept}
 
 -- ---- segments from a list of separators
 abbrev pub segmentOf : List ℕ → ℕ → ℕ → Segment

@@ -15,17 +15,20 @@ use Rattle.lists.proofs.Signed.{nlt-le-ℤ, lt-no}
 use Rattle.logarithm.specs.Log.{roundCount, unitsPerBit, floorLog, rounds, lg}
 use Rattle.pooling.specs.Blocks.{Direction, increasing, decreasing}
 use Rattle.verdict.specs.Test.{Closeness, leastCloseness, bar, cost}
-use Rattle.verdict.proofs.Whole.{cost-at-least}
+use Rattle.verdict.proofs.Whole.{low-bar-cost}
 use Rattle.segmentation.specs.Segments.{segmentAt, firstSeparators, segmentsFrom, firstSegments}
 use Rattle.segmentation.specs.Joining.{lineReader, Join, lastIn, riseOf, fallOf, riseCost, fallCost, joinOf, nextJoin, lineModes}
 use Rattle.segmentation.specs.Ring.{opening, opened, ringModes}
-use Rattle.segmentation.specs.Loose.{LowBars, NothingJoins, keptBins, KeptAtLeast, RingKeptAtLeast}
+use Rattle.segmentation.specs.Loose.{LowBars, LowBarNeverJoins, NothingJoins, keptBins, KeptAtMinusTen, RingKeptAtMinusTen}
 use Rattle.segmentation.proofs.Kept.{ends-ascend, run-bins}
 use Rattle.segmentation.proofs.FirstCut.{first-cut, first-inside}
 use Rattle.segmentation.proofs.Settled.{next-of, next-below}
 use Rattle.segmentation.proofs.Finishing.{part-length}
 use Rattle.segmentation.proofs.Applied.{joins-none, one-joins-none}
 use Rattle.segmentation.proofs.RingPlaces.{ring-length}
+
+pub low-bar-never-joins : LowBarNeverJoins
+low-bar-never-joins e w h l = low-bar-cost w h l e
 
 -- ---- nothing joins
 -- a line of one bin or none has a single segment
@@ -37,7 +40,7 @@ module _ (e : Closeness) (h : List ℕ) (low : LowBars e (length h)) where
   stretch-cost : (w : Direction) (i j : ℕ) → i ≤ j → j < length h → pos 0 ≤ℤ cost e w (part i j h)
   stretch-cost w i j a b =
       let l = part-length i j h a b in
-      cost-at-least w (part i j h) (omega arith) e (low (length (part i j h)) (omega arith) (omega arith))
+      low-bar-cost w (part i j h) (omega arith) e (low (length (part i j h)) (omega arith) (omega arith))
 
   -- the two stretches of a run lie within the line
   run-cost : 2 ≤ length h → (i n : ℕ) → 2 ≤ n → i + n ≤ length (firstSegments h) → pos 0 ≤ℤ joinOf e (lineReader h) (firstSegments h) i n .cost
@@ -80,10 +83,10 @@ none-above = refl
 low-bars : LowBars leastCloseness keptBins
 low-bars l a b = nlt-le-ℤ (pos 0) (bar leastCloseness l) (none-passes (bar leastCloseness) 1 keptBins (ltZ (pos 0)) none-above l a (omega arith))
 
-pub kept-at-least : KeptAtLeast
-kept-at-least h k = nothing-joins leastCloseness h (λ l a b. low-bars l a (omega arith))
+pub kept-at-minus-ten : KeptAtMinusTen
+kept-at-minus-ten h k = nothing-joins leastCloseness h (λ l a b. low-bars l a (omega arith))
 
-pub ring-kept-at-least : RingKeptAtLeast
+pub ring-kept-at-minus-ten : RingKeptAtMinusTen
 unfolding ringModes opened opening firstLowest
-ring-kept-at-least [] k = kept-at-least [] (omega arith)
-ring-kept-at-least (x ∷ h) k = kept-at-least (opened (x ∷ h)) (omega (arith, ring-length (x ∷ h) (omega arith)))
+ring-kept-at-minus-ten [] k = kept-at-minus-ten [] (omega arith)
+ring-kept-at-minus-ten (x ∷ h) k = kept-at-minus-ten (opened (x ∷ h)) (omega (arith, ring-length (x ∷ h) (omega arith)))

@@ -1,14 +1,16 @@
 -- When a line keeps its first segments as its modes. Assumes nothing.
---   LowBars        the bar of every stretch of a line of so many bins is 0 or less
---   NothingJoins   then no run is joinable
---   KeptAtLeast    so it is at the least closeness on a line of up to 44 bins; RingKeptAtLeast: on a ring of up to 43
+--   LowBars            the bar of every stretch of a line of so many bins is 0 or less
+--   LowBarNeverJoins   what such a bar means for one stretch
+--   NothingJoins       what such bars mean for a line
+--   KeptAtMinusTen     so it is at the least closeness on a line of up to 44 bins; RingKeptAtMinusTen: on a ring of up to 43
 use Prim.Native.Nat.{ℕ, _≤_, _<_}
 use mathlib.Core.Path.{_≡_}
 use mathlib.Core.List.{List}
 use lib.ListN.{length}
 use lib.IntN.{pos}
 use lib.Signed.{_≤ℤ_}
-use Rattle.verdict.specs.Test.{Closeness, leastCloseness, bar}
+use Rattle.pooling.specs.Blocks.{Direction}
+use Rattle.verdict.specs.Test.{Closeness, leastCloseness, bar, cost}
 use Rattle.segmentation.specs.Segments.{firstSegments}
 use Rattle.segmentation.specs.Joining.{lineModes}
 use Rattle.segmentation.specs.Ring.{opened, ringModes}
@@ -17,8 +19,12 @@ use Rattle.segmentation.specs.Ring.{opened, ringModes}
 abbrev pub LowBars : Closeness → (bins : ℕ) → Type 0
 LowBars e bins = (l : ℕ) → 1 ≤ l → l ≤ bins → bar e l ≤ℤ pos 0
 
--- S4, S7: then no run of the line is joinable, and its first segments are its modes; proved in proofs/Loose.
--- The largest weight of a stretch is never below 0, the weight of the whole, so by T5 no cost is below minus the bar
+-- T5, S4: a stretch whose bar is 0 or less costs 0 or more, so no run is joined by it, however long its line is: the whole of the stretch weighs 0, and
+-- the largest weight is not below that. Proved in proofs/Whole of verdict
+abbrev pub LowBarNeverJoins : Type 0
+LowBarNeverJoins = (e : Closeness) (w : Direction) (h : List ℕ) → 1 ≤ length h → bar e (length h) ≤ℤ pos 0 → pos 0 ≤ℤ cost e w h
+
+-- S4, S7: where every bar is low no run of the line is joinable, and its first segments are its modes; proved in proofs/Loose
 abbrev pub NothingJoins : Type 0
 NothingJoins = (e : Closeness) (h : List ℕ) → LowBars e (length h) → lineModes e h ≡ firstSegments h
 
@@ -27,9 +33,9 @@ unfoldable pub keptBins : ℕ
 keptBins = 44
 
 -- S7: at the least closeness, −10, a line of up to 44 bins keeps all its first segments; proved in proofs/Loose
-abbrev pub KeptAtLeast : Type 0
-KeptAtLeast = (h : List ℕ) → length h ≤ keptBins → lineModes leastCloseness h ≡ firstSegments h
+abbrev pub KeptAtMinusTen : Type 0
+KeptAtMinusTen = (h : List ℕ) → length h ≤ keptBins → lineModes leastCloseness h ≡ firstSegments h
 
 -- R2, S7: so does a ring of up to 43 bins, whose line has one bin more; proved in proofs/Loose
-abbrev pub RingKeptAtLeast : Type 0
-RingKeptAtLeast = (h : List ℕ) → length h < keptBins → ringModes leastCloseness h ≡ firstSegments (opened h)
+abbrev pub RingKeptAtMinusTen : Type 0
+RingKeptAtMinusTen = (h : List ℕ) → length h < keptBins → ringModes leastCloseness h ≡ firstSegments (opened h)

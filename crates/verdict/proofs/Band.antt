@@ -23,11 +23,11 @@ use Rattle.logarithm.proofs.Within.{always-bounded}
 use Rattle.pooling.specs.Blocks.{Direction, blocks}
 use Rattle.verdict.specs.declared.Mass.{Mass}
 use Rattle.verdict.specs.Test.{Closeness, fittedMass, weight, partWeight, bar, largestWeight, cost, stepAgainst, rejected}
-use Rattle.verdict.specs.Exactness.{observed, expected, powerAbove, powerBelow, exactBar, LogsDefined, partX, partBar, ByClause, Exact}
+use Rattle.verdict.specs.Exactness.{observed, expected, powerAbove, powerBelow, exactBar, LogsDefined, partX, partBar, ByMissingStep, Exact}
 use Rattle.verdict.proofs.Terms.{observedLog, expectedLog, Ranged, loggable, counted, massed, remaining, parts-range}
 use Rattle.verdict.proofs.Largest.{largest-part, part-largest}
 use Rattle.verdict.proofs.Settings.{up, down, bar-split, above-power, below-power}
-use Rattle.verdict.proofs.Clause.{none-monotone}
+use Rattle.verdict.proofs.Ordered.{none-monotone}
 
 -- ---- a power of x against the factor times the logarithm
 -- at factor 0 both sides are 1
@@ -193,7 +193,7 @@ module _ (e : Closeness) (w : Direction) (h : List ℕ) where
   unfolding rejected
   rejects q = sym cost-reaches ∙ both-true (stepAgainst w h) (leZ (pos 0) (cost e w h)) q .1
 
-  accepts : rejected e w h ≡ false → ¬ ByClause e w h → leZ (bar e (length h)) (largestWeight h (blocks w h)) ≡ false
+  accepts : rejected e w h ≡ false → ¬ ByMissingStep e w h → leZ (bar e (length h)) (largestWeight h (blocks w h)) ≡ false
   unfolding rejected
   accepts q n = sym cost-reaches ∙ go (stepAgainst w h) (leZ (pos 0) (cost e w h)) refl refl q
     where

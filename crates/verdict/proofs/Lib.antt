@@ -6,7 +6,7 @@ mod Scratch
 pub mod Range
 mod Sizes
 mod Caps
-pub mod Clause
+pub mod Ordered
 pub mod Settings
 pub mod Monotone
 pub mod Whole

@@ -8,7 +8,7 @@ use Rattle.lists.proofs.Signed.{difference-below}
 use Rattle.logarithm.specs.Log.{Loggable, lg, unitsPerBit, roundCount}
 use Rattle.logarithm.proofs.Laws.{lg-below}
 use Rattle.verdict.specs.declared.Mass.{Mass}
-use Rattle.verdict.specs.Test.{weight, bar}
+use Rattle.verdict.specs.Test.{leastCloseness, mostCloseness, weight, bar}
 use Rattle.verdict.specs.Settings.{settingsBelow, lastSetting, closenessOf}
 use Rattle.verdict.specs.Exactness.{LogsDefined}
 use Rattle.verdict.proofs.Terms.{observedLog, expectedLog, Ranged, loggable, counted, massed, remaining, parts-range}
@@ -24,11 +24,11 @@ lg-small x v = omega (arith, lg-below x v, units-small)
 
 -- room for wider ranges too
 pub setting-small : {s : ℕ} → s ≤ lastSetting → s ≤ 32
-unfolding lastSetting
+unfolding lastSetting leastCloseness mostCloseness
 setting-small h = omega arith
 
 below-small : settingsBelow ≤ 32
-unfolding settingsBelow
+unfolding settingsBelow leastCloseness
 below-small = lit≤ tt
 
 setting-units : (s : ℕ) → s ≤ 32 → s * unitsPerBit ≤ 2 ^ 45

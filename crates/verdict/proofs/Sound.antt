@@ -5,7 +5,7 @@ use Rattle.verdict.proofs.Masses.{mass-of-fit}
 use Rattle.verdict.proofs.Range.{in-range}
 use Rattle.verdict.proofs.Band.{exact}
 use Rattle.verdict.proofs.Monotone.{monotone-cost}
-use Rattle.verdict.proofs.Clause.{monotone-kept}
+use Rattle.verdict.proofs.Ordered.{monotone-kept}
 
 pub verdict-sound : VerdictAlwaysSound
 verdict-sound e w h hl hn = record {
@@ -14,5 +14,5 @@ verdict-sound e w h hl hn = record {
   inRange = in-range w h hl hn;
   exact = λ l. exact e w h l hl (in-range w h hl hn);
   monotone = λ l m. monotone-cost w h m e l;
-  clause = monotone-kept e w h;
+  kept = monotone-kept e w h;
 }

@@ -1,4 +1,4 @@
--- The whole of a stretch weighs 0, since its fitted mass is its count. So where the bar is 0 or less no cost is below 0. Assumes nothing.
+-- The whole of a stretch weighs 0, since its fitted mass is its count. So where its bar is 0 or less its cost is 0 or more. Assumes nothing.
 use Prim.Native.Nat.{ℕ, suc, _*_, _-_, _≤_, _<_}
 use mathlib.Core.Path.{_≡_, refl, ap, _∙_}
 use mathlib.Core.List.{List}
@@ -49,9 +49,9 @@ module _ (w : Direction) (h : List ℕ) (some : 1 ≤ length h) where
       (rw e whole-mass) (total-part-le 0 (length h - 1) h (omega arith))
 
   -- the weight of the whole reaches a bar of 0 or less
-  pub cost-at-least : (e : Closeness) → bar e (length h) ≤ℤ pos 0 → pos 0 ≤ℤ cost e w h
+  pub low-bar-cost : (e : Closeness) → bar e (length h) ≤ℤ pos 0 → pos 0 ≤ℤ cost e w h
   unfolding cost
-  cost-at-least e low =
+  low-bar-cost e low =
       let top = largestWeight h (blocks w h) in
       let l : pos 0 ≤ℤ top = rw whole-weight at (part-largest h (blocks w h) 0 (length h - 1) (omega arith) (omega arith)) in
       let b : bar e (length h) ≤ℤ top = le-trans-ℤ (bar e (length h)) (pos 0) top low l in

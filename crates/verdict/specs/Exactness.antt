@@ -72,14 +72,14 @@ module _ (e : Closeness) (w : Direction) (h : List ℕ) where
     pub below : partX i j ^ unitsPerBit < partBar i j ^ unitsPerBit * 2 ^ (2 * total h)
 
   -- T9: only the missing step decides: at its cost the stretch would be rejected
-  pub record ByClause : Type 0 where
+  pub record ByMissingStep : Type 0 where
     pub along : Monotone w h
     pub dear : pos 0 ≤ℤ cost e w h
 
   -- T8 and T9: the verdict agrees with the exact figures outside the band
   pub record Exact : Type 0 where
     pub rejection : rejected e w h ≡ true → (i : ℕ) × (j : ℕ) × Above i j
-    pub acceptance : rejected e w h ≡ false → ¬ ByClause → (i j : ℕ) → i ≤ j → j < length h → BelowBar i j
+    pub acceptance : rejected e w h ≡ false → ¬ ByMissingStep → (i j : ℕ) → i ≤ j → j < length h → BelowBar i j
 
   -- T2: A/B is the sum of the fitted means over the part: A·D = B·(that sum times D), for every common denominator D
   pub record MassOfFit (i j : ℕ) : Type 0 where
@@ -96,7 +96,7 @@ module _ (e : Closeness) (w : Direction) (h : List ℕ) where
     pub inRange : (i j : ℕ) → i ≤ j → j < length h → LogsDefined (total h) (total (part i j h)) (fittedMass h (blocks w h) i j)
     pub exact : 1 ≤ length h → Exact
     pub monotone : 1 ≤ length h → Monotone w h → cost e w h ≡ negℤ (bar e (length h))
-    pub clause : Monotone w h → rejected e w h ≡ false
+    pub kept : Monotone w h → rejected e w h ≡ false
 
 -- proved in proofs/Sound. A ring of up to 256 bins and 65,536 counts with its lowest bin repeated has up to 257 bins and 98,304 counts (two equal bins become three);
 -- then NB is at most 98,304 · 128 · 129, within the logarithm's range

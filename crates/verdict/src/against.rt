@@ -1,7 +1,5 @@
-// Whether a stretch has a step against the tested direction.
+// Whether a stretch has a step that goes against its fit.
 ghost use mathlib.Core.Path.{_≡_};
-ghost use Prim.Native.Nat.{_≤_};
-ghost use lib.ListN.{length};
 ghost use Rattle.pooling.specs.Blocks.{direction};
 ghost use Rattle.verdict.specs.Test.{against, stepAgainst};
 
@@ -14,7 +12,6 @@ fn against(rising: bool, a: u32, b: u32) -> bool
 
 // Some step from a bin to the next goes against the direction.
 pub fn step_against(h: &[u32], rising: bool) -> bool
-    requires { ⌜ 1 ≤ length (now h) ⌝ }
     ensures { λ r. ⌜ r ≡ stepAgainst (direction rising) (now (h .entry)) ⌝ }
 {
     let mut i = 1;

@@ -18,13 +18,10 @@ ghost use Rattle.verdict.specs.Test.{verdictOf};
 ghost use Rattle.verdict.specs.Settings.{lastSetting, closenessOf, Offered};
 ghost use Rattle.verdict.specs.Scratch.{Small};
 
-// The least and the largest closeness. Each 1 of it asks for one more bit of evidence before a stretch is rejected (rule T4).
+// The least and the largest closeness. One more closeness asks for one more bit of evidence before a stretch is rejected (rule T4).
 pub const LEAST_CLOSENESS: i32 = -10;
 
 pub const MOST_CLOSENESS: i32 = 20;
-
-// The setting of closeness 0. Settings count up from the least closeness, so the code hands on an unsigned number.
-const SETTINGS_BELOW: u64 = 10;
 
 // A part's fitted mass A/B (rules T1 and T2).
 pub struct Mass {
@@ -39,7 +36,7 @@ pub struct Verdict {
     pub rejected: bool,
 }
 
-// The setting of a closeness.
+// The setting of a closeness: settings count up from the least closeness, so the code hands on an unsigned number.
 pub fn setting_of(closeness: i32) -> u32
     requires { ⌜ Offered closeness ⌝ }
     ensures { λ r. ⌜ (r ≤ lastSetting) × (closenessOf r ≡ closeness) ⌝ }

@@ -1,6 +1,6 @@
 // The weight of a part of a stretch, and the bar that weights are compared with.
+use crate::LEAST_CLOSENESS;
 use crate::Mass;
-use crate::SETTINGS_BELOW;
 use crate::signed::difference;
 use logarithm::Logarithm;
 use logarithm::SHEET_SIZE;
@@ -12,6 +12,9 @@ ghost use Rattle.logarithm.specs.Sheet.{logSheet};
 ghost use Rattle.verdict.specs.Test.{weight, bar};
 ghost use Rattle.verdict.specs.Settings.{lastSetting, closenessOf};
 ghost use Rattle.verdict.specs.Exactness.{LogsDefined};
+
+// How many settings lie below closeness 0.
+const SETTINGS_BELOW: u64 = (0 - LEAST_CLOSENESS) as u64;
 
 // The weight where one term has all n counts as its factor: the other term's factor is 0, and its logarithms are not taken.
 fn one_term(sheet: &[u32; SHEET_SIZE], n: u64, p: u64, q: u64) -> i64

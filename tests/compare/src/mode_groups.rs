@@ -287,8 +287,8 @@ fn cloths(random: &mut Random) -> Vec<ModesCase> {
         .collect()
 }
 
-/// At the least closeness the bar of a stretch of 44 bins is just below 0, that of 45 just above. A ripple is so even that
-/// its runs are joined as soon as their bar allows it.
+/// At the least closeness the bar of a stretch of 44 bins is just below 0, that of 45 just above. Humps all alike, hardly
+/// higher than the bins between them, join once the bar is a little above 0: here from 46 bins on.
 fn around_a_bar_of_0(_: &mut Random) -> Vec<ModesCase> {
     let mut cases = Vec::new();
     for bins in 40..=56 {

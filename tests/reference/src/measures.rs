@@ -55,7 +55,7 @@ pub fn measures(red: u8, green: u8, blue: u8) -> Measures {
     }
 }
 
-/// 01's Q.
+/// The chroma squared, Q.
 pub fn spread(r: i64, g: i64, b: i64) -> i64 {
     r * r + g * g + b * b - r * g - g * b - b * r
 }
@@ -119,7 +119,7 @@ mod tests {
         assert_eq!(measures(255, 0, 0).saturation, 41);
     }
 
-    /// 01's own way to the hue: the quarter, the point turned back, the tangents counted.
+    /// The way of the rules to the hue: the quarter, the point turned back, the tangents counted.
     #[test]
     fn sectors_agree_with_quarters() {
         let step = |top| (0..=top).step_by(3).chain([1, 254]);

@@ -32,7 +32,7 @@ pub fn has_step_against(counts: &[u64], rising: bool) -> bool {
     })
 }
 
-/// 01's Θ, which is 0 or less for a short stretch at a closeness far enough below 0.
+/// The bar Θ, which is 0 or less for a short stretch at a closeness far enough below 0.
 pub fn bar(bins: usize, closeness: i32) -> i64 {
     let bins = bins as u64;
     lg(bins * (bins + 1) / 2) as i64 + i64::from(closeness) * UNIT as i64
@@ -57,7 +57,7 @@ pub struct Part {
 }
 
 impl Part {
-    /// 01's W, in a stretch whose counts sum to `total`.
+    /// The weight W, in a stretch whose counts sum to `total`.
     pub fn weight(&self, total: u64) -> i64 {
         let outside = Part {
             count: total - self.count,

@@ -5,7 +5,7 @@ use lib.IntN.{ℤ, pos, _-ℤ_}
 use mir.Syntax.{w32}
 use mir.Val.{SFits, toZ, ofZ}
 use mir.ValLaws.{toZ-ofZ}
-use Rattle.verdict.specs.Test.{leastCloseness}
+use Rattle.verdict.specs.Test.{leastCloseness, mostCloseness}
 use Rattle.verdict.specs.Settings.{lastSetting}
 use Rattle.verdict.proofs.Settings.{Counted, counted-from-least}
 use Rattle.verdict.proofs.setting_of.Statement.{statement}
@@ -15,7 +15,7 @@ abbrev found : (c : tie.Start) → Counted (c .args .closeness)
 found c = counted-from-least (c .args .closeness) (c .pre)
 
 small : (c : tie.Start) → SFits w32 (pos (found c .setting))
-unfolding lastSetting
+unfolding lastSetting leastCloseness mostCloseness
 small c = record { sfits = omega (arith, found c .within) }
 
 -- what is left when the machine takes off the least closeness
@@ -30,7 +30,7 @@ cast-is : (c : tie.Start) → toZ w32 (ofZ w32 (toZ w32 (ofZ w32 (c .args .close
 cast-is c = ap (λ (z : ℤ). toZ w32 (ofZ w32 z)) (left-is c) ∙ toZ-ofZ w32 _ (small c)
 
 cast-result : tie.Need-cast-result
-unfolding leastCloseness lastSetting
+unfolding leastCloseness mostCloseness lastSetting
 cast-result c = rw (cast-is c) (tt, record { fits = omega (arith, found c .within) })
 
 returns : tie.Need-returns

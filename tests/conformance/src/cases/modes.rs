@@ -113,7 +113,7 @@ fn sample(what: &str, histogram: &[u32], closeness: i32) -> Asked {
     fitting((what, histogram.to_vec()), closeness)
 }
 
-/// So even that their runs are joined as soon as the bar is above 0: at -10 from 45 bins on.
+/// Humps all alike. At -10 the bar of a stretch is above 0 from 45 bins on; these join from 46 on.
 fn ripples() -> Vec<Asked> {
     [42, 43, 44, 45, 46, 52]
         .map(|bins| {

@@ -5,18 +5,18 @@ use lib.ListN.{length}
 use native.Mathlib.Omega.{arith}
 use borrow.Author.Needs.{needs}
 use Rattle.pooling.specs.Blocks.{direction}
-use Rattle.verdict.proofs.Clause.{OrderedTo, step-kept, step-found, monotone-none}
+use Rattle.verdict.proofs.Ordered.{OrderedTo, step-kept, step-found, monotone-none}
 use Rattle.verdict.proofs.against.step_against.Statement.{statement}
 use Rattle.verdict.proofs.against.step_against.Tie as tie
 
 abbrev Inv-loop : tie.InvT-loop
-Inv-loop h rising i₀ i = (1 ≤ i) × (i ≤ length h) × OrderedTo (direction rising) h i
+Inv-loop h rising i₀ i = (1 ≤ i) × OrderedTo (direction rising) h i
 
 abbrev μ-loop : tie.MeasureT-loop
 μ-loop h rising i₀ i = length h - i
 
 loop-holds : tie.Need-loop-holds Inv-loop μ-loop
-loop-holds c = (omega arith, c .before .pre, λ k l. absurd (omega arith))
+loop-holds c = (omega arith, λ k l. absurd (omega arith))
 
 sub-against : tie.Need-sub-against Inv-loop μ-loop
 sub-against c = search needs
@@ -52,13 +52,13 @@ loop-again : tie.Need-loop-again Inv-loop μ-loop
 loop-again c =
     let s = c .before .before .before .before .before .before .before in
     let l = c .before .before .before .before .before .loop in
-    (omega arith, omega arith, step-kept (direction (s .args .rising)) (s .args .h .now) (l .i) (l .inv .0) (sym (c .before .against .ensures) ∙ c .if1 .left) (l .inv .2))
+    (omega arith, step-kept (direction (s .args .rising)) (s .args .h .now) (l .i) (l .inv .0) (sym (c .before .against .ensures) ∙ c .if1 .left) (l .inv .1))
 
 returns-2 : tie.Need-returns-2 Inv-loop μ-loop
 returns-2 c =
     let s = c .before .before .before in
     let l = c .before .loop in
-    sym (monotone-none (direction (s .args .rising)) (s .args .h .now) (λ k m. l .inv .2 k (omega arith)))
+    sym (monotone-none (direction (s .args .rising)) (s .args .h .now) (λ k m. l .inv .1 k (omega arith)))
 
 pub step-against-spec : {M : Type 1} → statement M
 step-against-spec =

@@ -6,6 +6,7 @@ use native.Mathlib.Omega.{arith}
 use lib.IntN.{subℕ}
 use borrow.Author.Needs.{needs}
 use Rattle.logarithm.specs.Log.{lg, unitsPerBit}
+use Rattle.verdict.specs.Test.{leastCloseness}
 use Rattle.verdict.specs.Settings.{settingsBelow}
 use Rattle.verdict.proofs.Machine.{handed-back}
 use Rattle.verdict.proofs.Terms.{parts-range}
@@ -40,14 +41,14 @@ units-requires-2 : tie.Need-units-requires-2
 units-requires-2 c κs = search needs
 
 difference-requires : tie.Need-difference-requires
-unfolding settingsBelow
+unfolding settingsBelow leastCloseness
 difference-requires c κs =
     let u = c .before in
     let s = u .before .before in
     (omega (arith, raised-is u, raised-small (s .args .setting) (s .args .bins) (s .pre .0) (s .pre .1) (s .pre .2)), omega (arith, c .units2 .ensures, below-units))
 
 returns : tie.Need-returns
-unfolding settingsBelow
+unfolding settingsBelow leastCloseness
 returns c =
     let u = c .before .before in
     let s = u .before .before in
