@@ -20,7 +20,7 @@ abbrev pub LowBars : Closeness → (bins : ℕ) → Type 0
 LowBars e bins = (l : ℕ) → 1 ≤ l → l ≤ bins → bar e l ≤ℤ pos 0
 
 -- T5, S4: a stretch whose bar is 0 or less costs 0 or more, so no run is joined by it, however long its line is: the whole of the stretch weighs 0, and
--- the largest weight is not below that. Proved in proofs/Whole of verdict
+-- the largest weight is not below that. Proved in proofs/Loose
 abbrev pub LowBarNeverJoins : Type 0
 LowBarNeverJoins = (e : Closeness) (w : Direction) (h : List ℕ) → 1 ≤ length h → bar e (length h) ≤ℤ pos 0 → pos 0 ≤ℤ cost e w h
 
