@@ -11,5 +11,6 @@ pub mod Settings
 pub mod Monotone
 pub mod Whole
 pub mod Band
+mod Covered
 pub mod Sound
 pub mod Difference

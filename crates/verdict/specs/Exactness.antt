@@ -97,6 +97,8 @@ module _ (e : Closeness) (w : Direction) (h : List ℕ) where
     pub exact : 1 ≤ length h → Exact
     pub monotone : 1 ≤ length h → Monotone w h → cost e w h ≡ negℤ (bar e (length h))
     pub kept : Monotone w h → rejected e w h ≡ false
+    -- T9: from closeness 0 up the bar of two bins or more is above 0, so the missing step never decides alone, and the band covers every verdict
+    pub covered : pos 0 ≤ℤ e → 2 ≤ length h → ¬ ByMissingStep
 
 -- proved in proofs/Sound. A ring of up to 256 bins and 65,536 counts with its lowest bin repeated has up to 257 bins and 98,304 counts (two equal bins become three);
 -- then NB is at most 98,304 · 128 · 129, within the logarithm's range

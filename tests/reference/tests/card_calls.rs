@@ -1,5 +1,8 @@
 //! The grounds and the answers of the two card calls.
 
+mod common;
+
+use common::CLOSENESSES;
 use reference::calls::*;
 use reference::cards::Entry;
 
@@ -60,16 +63,7 @@ fn pixels_are_65_536_at_most() {
 
 #[test]
 fn closeness_is_minus_10_to_20() {
-    for (closeness, expected) in [
-        (i32::MIN, 8),
-        (-21, 8),
-        (-11, 8),
-        (-10, 0),
-        (0, 0),
-        (20, 0),
-        (21, 8),
-        (i32::MAX, 8),
-    ] {
+    for (closeness, expected) in CLOSENESSES {
         assert_eq!(number(&BLACK_AND_RED, closeness), expected);
     }
 }

@@ -1,5 +1,8 @@
 //! The grounds and the answers of the calls on histograms.
 
+mod common;
+
+use common::CLOSENESSES;
 use reference::calls::*;
 use reference::test::Verdict;
 
@@ -26,18 +29,6 @@ fn counts_sum_to_65_536_at_most() {
     }
     assert_eq!(fit(&[u32::MAX; 256], true).number, 7);
 }
-
-/// Each closeness at an end of the range or past it, and the number of a call that is right in all else.
-const CLOSENESSES: [(i32, u32); 8] = [
-    (i32::MIN, 8),
-    (-21, 8),
-    (-11, 8),
-    (-10, 0),
-    (0, 0),
-    (20, 0),
-    (21, 8),
-    (i32::MAX, 8),
-];
 
 #[test]
 fn closeness_is_minus_10_to_20() {
