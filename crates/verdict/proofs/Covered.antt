@@ -23,7 +23,7 @@ two-units : 2 ≤ unitsPerBit
 unfolding unitsPerBit roundCount
 two-units = lit≤ tt
 
--- a logarithm of 0 would leave x at less than 2 bits
+-- were it 0, x raised to the power unitsPerBit would be below 4
 lg-positive : (x : ℕ) → 2 ≤ x → Loggable x → 0 < lg x
 lg-positive x h v = go (lg x) refl
   where
