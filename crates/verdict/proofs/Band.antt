@@ -67,7 +67,7 @@ module _ (n k x y : ℕ) (fits : k ≤ n) (first : Ranged k x) (rest : Ranged (n
       gathered a b = omega arith
 
 module _ (n k : ℕ) (m : Mass) (r : LogsDefined n k m) where
-  observed-low : 2 ^ observedLog n k m ≤ observed n k m ^ unitsPerBit
+  pub observed-low : 2 ^ observedLog n k m ≤ observed n k m ^ unitsPerBit
   unfolding observed
   observed-low = pair-low n k (k * m .den) ((n - k) * m .den) (r .partial) (counted n k m r k (r .partial)) (counted n k m r (n - k) (omega arith))
 
@@ -79,7 +79,7 @@ module _ (n k : ℕ) (m : Mass) (r : LogsDefined n k m) where
   unfolding expected
   expected-low = pair-low n k (m .num) (n * m .den - m .num) (r .partial) (massed n k m r) (remaining n k m r)
 
-  expected-high : expected n k m ^ unitsPerBit ≤ 2 ^ (expectedLog n k m + 2 * n)
+  pub expected-high : expected n k m ^ unitsPerBit ≤ 2 ^ (expectedLog n k m + 2 * n)
   unfolding expected
   expected-high = pair-high n k (m .num) (n * m .den - m .num) (r .partial) (massed n k m r) (remaining n k m r)
 

@@ -11,6 +11,11 @@ pub mod Settings
 pub mod Monotone
 pub mod Whole
 pub mod Band
+mod Means
+mod Growth
+mod Steps
+mod Near
+mod Sparing
 mod Covered
 pub mod Sound
 pub mod Difference

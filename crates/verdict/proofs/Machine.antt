@@ -1,12 +1,13 @@
 -- Signed numbers as the machine holds them: the difference of two natural numbers, and the test of two signed numbers. Assumes nothing.
 use mathlib.Core.Path.{_≡_, sym, ap, _∙_}
-use mathlib.Core.Bool.{Bool}
-use Prim.Native.Nat.{ℕ, _^_, _<_}
+use mathlib.Core.Bool.{Bool, false, false≢true}
+use Prim.Native.Nat.{ℕ, _+_, _-_, _^_, _≤_, _<_}
 use native.Mathlib.Omega.{arith}
-use lib.IntN.{ℤ, subℕ, _+ℤ_, _-ℤ_}
-use lib.Signed.{ltZ, mag}
+use lib.Dec.{T, le→leb}
+use lib.IntN.{ℤ, pos, negsuc, natAbs, subℕ, _+ℤ_, _-ℤ_}
+use lib.Signed.{ltZ, mag, nonNeg, _≤ℤ_}
 use mir.Syntax.{w64}
-use mir.Val.{SFits, toZ, ofZ}
+use mir.Val.{Fits, SFits, toZ, ofZ}
 use mir.ValLaws.{toZ-pos, toZ-ofZ}
 use Rattle.lists.proofs.Signed.{difference-is, difference-below, sum-size, less-size}
 
@@ -31,3 +32,13 @@ sum-fits x y h k = record { sfits = sum-size x y (2 ^ 63) (omega arith) }
 
 pub less-fits : (x y : ℤ) → mag x < 2 ^ 62 → mag y < 2 ^ 62 → SFits w64 (x -ℤ y)
 less-fits x y h k = record { sfits = less-size x y (2 ^ 63) (omega arith) }
+
+-- a signed number that is not negative, as a natural one
+pub natural-fits : (z : ℤ) → mag z < 2 ^ 63 → ltZ z (pos 0) ≡ false → T (nonNeg z) × Fits w64 (natAbs z)
+natural-fits (pos a) h e = (tt, record { fits = omega arith })
+natural-fits (negsuc a) h e = absurd (false≢true (sym e))
+
+-- what it is above l
+pub natural-above : (z : ℤ) (l : ℕ) → ltZ z (pos 0) ≡ false → l ≤ natAbs z → pos (natAbs z - l + l) ≤ℤ z
+natural-above (pos a) l e h = record { le = le→leb (a - l + l) a (omega arith) }
+natural-above (negsuc a) l e h = absurd (false≢true (sym e))

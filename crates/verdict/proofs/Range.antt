@@ -23,7 +23,7 @@ use Rattle.verdict.specs.Exactness.{LogsDefined}
 use Rattle.verdict.proofs.Masses.{by-blocks, mass-levels, mass-positive}
 
 -- ---- B: four times the product of two lengths is at most the square of their sum
-four-product : (a b : ℕ) → 4 * (a * b) ≤ (a + b) * (a + b)
+pub four-product : (a b : ℕ) → 4 * (a * b) ≤ (a + b) * (a + b)
 four-product a b =
     by-order a b
     (λ l. let z : a + (b - a) ≡ b = omega arith in rw z at (over a (b - a)))
@@ -49,7 +49,7 @@ mass-small {bs = bs} k hl n hn i j o l =
     (λ P Q e. product-small n (placeOf bs i .block .len) (placeOf bs j .block .len) hn (omega (arith, begins-fits (Q .begins), places-apart P Q o e)))
 
 -- ---- the range: k is the count of the part and K its levels, N all counts and M the number of bins
-positive-left : (a b : ℕ) → 0 < a * b → 0 < a
+pub positive-left : (a b : ℕ) → 0 < a * b → 0 < a
 positive-left zero b h = omega arith
 positive-left (suc a) b h = omega arith
 

@@ -15,7 +15,7 @@ use Rattle.verdict.proofs.Terms.{observedLog, expectedLog, Ranged, logg
 use Rattle.verdict.proofs.Settings.{bar-setting}
 
 -- room for finer units too
-units-small : unitsPerBit ≤ 2 ^ 40
+pub units-small : unitsPerBit ≤ 2 ^ 40
 unfolding unitsPerBit roundCount
 units-small = lit≤ tt
 

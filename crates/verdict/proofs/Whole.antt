@@ -41,7 +41,7 @@ module _ (w : Direction) (h : List ℕ) (some : 1 ≤ length h) where
           (mass-levels k 0 (length h - 1) (omega arith) (omega arith) D v
           ∙ ap (λ (z : ℕ). fittedMass h (blocks w h) 0 (length h - 1) .den * z) e ∙ omega arith)
 
-  whole-weight : partWeight h (blocks w h) 0 (length h - 1) ≡ pos 0
+  pub whole-weight : partWeight h (blocks w h) 0 (length h - 1) ≡ pos 0
   unfolding partWeight
   whole-weight =
       let e = whole-part (length h) h some refl in

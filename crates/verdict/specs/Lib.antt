@@ -1,5 +1,6 @@
 pub mod Test
 pub mod Settings
 pub mod Exactness
+pub mod Reach
 pub mod Scratch
 pub mod Difference

@@ -3,6 +3,7 @@
 mod against;
 mod costs;
 mod parts;
+mod reach;
 mod signed;
 mod weights;
 
@@ -27,6 +28,18 @@ pub const MOST_CLOSENESS: i32 = 20;
 pub struct Mass {
     pub num: u64,
     pub den: u64,
+}
+
+// How near its fitted mass a part's count must be to need no logarithm: a fraction of the most that the two can differ by, factor/2^(shift + 4).
+pub struct Threshold {
+    pub factor: u64,
+    pub shift: u32,
+}
+
+// The best weight so far, and the threshold that goes with it: a part that is nearer has no larger weight.
+pub struct Best {
+    pub weight: i64,
+    pub threshold: Threshold,
 }
 
 // A stretch's cost, and whether it is rejected.

@@ -1,9 +1,8 @@
-// Signed figures: the difference of two sums, the larger of two, the sign, adding and subtracting.
+// Signed figures: the difference of two sums, the sign, adding and subtracting.
 ghost use mathlib.Core.Path.{_≡_};
-ghost use mathlib.Core.Bool.{cond};
 ghost use Prim.Native.Nat.{_<_, _^_};
 ghost use lib.IntN.{pos, subℕ, _+ℤ_, _-ℤ_};
-ghost use lib.Signed.{leZ, ltZ, mag};
+ghost use lib.Signed.{leZ, mag};
 
 // a minus b.
 pub fn difference(a: u64, b: u64) -> i64
@@ -11,13 +10,6 @@ pub fn difference(a: u64, b: u64) -> i64
     ensures { λ r. ⌜ r ≡ subℕ a b ⌝ }
 {
     (a as i64) - (b as i64)
-}
-
-// The larger of the two.
-pub fn larger(x: i64, y: i64) -> i64
-    ensures { λ r. ⌜ r ≡ cond (ltZ x y) y x ⌝ }
-{
-    if x < y { y } else { x }
 }
 
 // Zero or more.

@@ -1,46 +1,74 @@
 -- `best_weight` meets its contract: the two turns visit every part. Assumes nothing.
-use mathlib.Core.Path.{_∙_}
+use mathlib.Core.Path.{_≡_, sym, _∙_}
 use Prim.Native.Nat.{_-_}
 use native.Mathlib.Omega.{arith}
 use lib.ListN.{length}
+use lib.Signed.{≤ℤ-refl}
 use mir.Syntax.{w64}
 use mir.ValLaws.{toZ-ofZ}
+use Rattle.lists.specs.Lists.{total}
+use Rattle.pooling.specs.Blocks.{direction}
 use Rattle.verdict.proofs.Machine.{handed-back}
+use Rattle.verdict.proofs.Scratch.{running-all}
+use Rattle.verdict.proofs.Whole.{whole-weight}
 use Rattle.verdict.proofs.Caps.{best-turns}
 use borrow.Author.Needs.{needs}
 use Rattle.verdict.proofs.costs.best_weight.Statement.{statement}
 use Rattle.verdict.proofs.costs.best_weight.Tie as tie
 
-sub-part-weight : tie.Need-sub-part-weight
-sub-part-weight c = search needs
+mul-wide : tie.Need-mul-wide
+mul-wide c = search needs
 
-part-weight-requires : tie.Need-part-weight-requires
-part-weight-requires c κs = let s = c .before in (s .pre .0, (omega arith, omega arith, s .pre .1 .1))
+element-copy-out-wide : tie.Need-element-copy-out-wide
+element-copy-out-wide c = search needs
+
+wide-requires : tie.Need-wide-requires
+wide-requires c κs = search needs
+
+-- all counts
+all : (c : tie.After-wide) → c .wide .result ≡ total (c .before .before .before .args .h .now)
+all c = let s = c .before .before .before in c .wide .ensures ∙ running-all (s .args .h .now) (s .args .before .now) (s .pre .0 .running)
+
+best-at-requires : tie.Need-best-at-requires
+best-at-requires c κs = let s = c .before .before .before in rw (all c) (s .pre .0 .small .counts, ≤ℤ-refl _)
 
 best-in-turn-requires : tie.Need-best-in-turn-requires
 best-in-turn-requires c κs =
-    let s = c .before .before in
-    let w = c .part-weight in
-    (s .pre .0, (record { first = 0; last = length (s .args .h .now) - 1; ends = (omega arith, omega arith); weight = handed-back (w .ok) ∙ w .ensures }, s .pre .1 .1))
+    let s = c .before .before .before .before in
+    let b = c .best-at .ensures in (
+      s .pre .0,
+      (
+        record {
+          first = 0;
+          last = length (s .args .h .now) - 1;
+          ends = (omega arith, omega arith);
+          weight = b .0 ∙ sym (whole-weight (direction (s .args .rising)) (s .args .h .now) (s .pre .1 .0));
+        },
+        rw (all (c .before)) at (b .1),
+        s .pre .1 .1,
+      ),
+    )
 
 best-in-turn-requires-2 : tie.Need-best-in-turn-requires-2
 best-in-turn-requires-2 c κs = search needs
 
 returns : tie.Need-returns
 returns c =
-    let s = c .before .before .before .before in
+    let s = c .before .before .before .before .before .before .before in
     let e = toZ-ofZ w64 (s .args .limit) (s .fits .limit) in
-    let a = c .before .best-in-turn in
-    let b = c .best-in-turn2 in
-    rw (handed-back {z = c .best-in-turn2 .result} (b .ok))
-    (best-turns _ _ _ (s .args .starts .now) (rw e at (a .ensures .1)) (rw (handed-back {z = c .before .best-in-turn .result} (a .ok)) at (b .ensures .0)) (rw e at (b .ensures .1)))
+    let a = c .before .before .best-in-turn .ensures in
+    let b = c .before .best-in-turn2 .ensures in
+    rw (handed-back {z = c .before .best-in-turn2 .result .weight} (omega arith))
+    (best-turns _ _ _ (s .args .starts .now) (rw e at (a .1)) (b .0 .0) (rw e at (b .1)))
 
 pub best-weight-spec : {M : Type 1} → statement M
 best-weight-spec =
     tie.close
     (tie.spec
-    sub-part-weight
-    part-weight-requires
+    mul-wide
+    element-copy-out-wide
+    wide-requires
+    best-at-requires
     best-in-turn-requires
     best-in-turn-requires-2
     returns)
