@@ -19,10 +19,13 @@ use Rattle.pooling.specs.Blocks.{Direction, blocks}
 use Rattle.pooling.proofs.Laws.{blocks-cut}
 use Rattle.verdict.specs.Test.{fittedMass, partWeight, largestWeight, bar, cost}
 use Rattle.verdict.specs.Settings.{lastSetting, closenessOf}
+use Rattle.verdict.specs.declared.Best.{Best}
+use Rattle.verdict.specs.Reach.{Spares, NearUpTo}
 use Rattle.verdict.specs.Scratch.{Small, PlacesHeld, Capped, Attained, BestOf, EndingAt, firstOf, endOf, Turn, Part}
 use Rattle.verdict.proofs.Range.{in-range}
 use Rattle.verdict.proofs.Largest.{largest-part, part-largest}
 use Rattle.verdict.proofs.Masses.{bin-place}
+use Rattle.verdict.proofs.Whole.{whole-weight}
 use Rattle.verdict.proofs.Sizes.{weight-small, bar-small}
 
 -- ---- signed numbers
@@ -72,6 +75,10 @@ attained-small w h small r a =
     rw (a .weight)
     (weight-small (total h) (total (part i j h)) (fittedMass h (blocks w h) i j) (in-range w h (small .bins) (small .counts) i j (a .ends .0) (a .ends .1)) (small .counts))
 
+-- the whole stretch weighs 0
+pub whole-attained : (w : Direction) (h : List ℕ) → 1 ≤ length h → {r : ℤ} → r ≡ pos 0 → Attained h (blocks w h) r
+whole-attained w h some e = record { first = 0; last = length h - 1; ends = (omega arith, omega arith); weight = e ∙ sym (whole-weight w h some) }
+
 -- ---- a bin's block starts at the bin or before it
 pub start-le : (w : Direction) (h starts sums lens : List ℕ) (j : ℕ) → PlacesHeld w h starts sums lens → j < length h → getD starts j 0 ≤ j
 start-le w h starts sums lens j held l = omega (arith, ap (λ (p : Place). p .start) (held j l), bin-place (blocks-cut w h) j l)
@@ -79,6 +86,18 @@ start-le w h starts sums lens j held l = omega (arith, ap (λ (p : Place). p .st
 pub end-le : (within : Bool) (start j : ℕ) → start ≤ j → endOf within start j ≤ suc j
 end-le true start j l = omega arith
 end-le false start j l = omega arith
+
+-- a part that a turn visits begins at its last bin or before it
+pub turn-ordered : (w : Direction) (h starts sums lens : List ℕ) (within : Bool) (i j : ℕ) → PlacesHeld w h starts sums lens → Turn within starts (length h) i j → i ≤ j
+turn-ordered w h starts sums lens true i j held v = omega arith
+turn-ordered w h starts sums lens false i j held v = omega (arith, start-le w h starts sums lens j held (v .0))
+
+-- ---- near parts are no better than the best so far
+pub near-no-better : (w : Direction) (h : List ℕ) → Small h → (b : Best) → Spares (total h) b → (j first end : ℕ) → j < length h → end ≤ suc j
+    → NearUpTo h (blocks w h) (b .threshold) j first end → (i : ℕ) → first ≤ i → i < end → partWeight h (blocks w h) i j ≤ℤ b .weight
+unfolding partWeight
+near-no-better w h small b s j first end l m near i f g =
+    s .spares (total (part i j h)) (fittedMass h (blocks w h) i j) (in-range w h (small .bins) (small .counts) i j (omega arith) l) (near i f g)
 
 -- ---- the best of the parts visited
 module _ (h : List ℕ) (bs : List Block) (limit : ℤ) where
@@ -130,13 +149,19 @@ module _ (h : List ℕ) (bs : List Block) (limit : ℤ) where
       best-raised {more = EndingAt j i (i + 1)} b (larger-above r x s f) (rw g (best-one i j r k l (b .attained)))
       (λ a m v. by-order a i (λ u. inl (omega arith)) (λ u. inr (omega arith)))
 
+  -- some parts more of those that end at bin j, none of them better
+  pub best-no-better : (first i end j : ℕ) {r : ℤ} → BestOf h bs limit (EndingAt j first i) r → ((k : ℕ) → i ≤ k → k < end → partWeight h bs k j ≤ℤ r)
+      → BestOf h bs limit (EndingAt j first end) r
+  best-no-better first i end j {r = r} b none = record {
+    attained = b .attained;
+    bounds = λ e k m v. by-order k i (λ u. b .bounds e k m (v .0, v .1, u)) (λ u. rw (v .0) (none k u (v .2)));
+  }
+
   -- the parts of one bin more, in a turn
-  pub best-bin : (within : Bool) (starts : List ℕ) (j first end : ℕ) {r s : ℤ}
-      → first ≡ firstOf within (getD starts j 0) → end ≡ endOf within (getD starts j 0) j
-      → BestOf h bs limit (Turn within starts j) r → r ≤ℤ s → BestOf h bs limit (EndingAt j first end) s → BestOf h bs limit (Turn within starts (j + 1)) s
-  best-bin within starts j first end f g b u c =
-      best-raised b u c
-      (λ i m v. by-order m j (λ l. inl (l, v .1, v .2)) (λ l. let e : m ≡ j = omega arith in inr (e, rw (e, ← f) at (v .1), rw (e, ← g) at (v .2))))
+  pub best-bin : (within : Bool) (starts : List ℕ) (j : ℕ) {r s : ℤ} → BestOf h bs limit (Turn within starts j) r → r ≤ℤ s
+      → BestOf h bs limit (EndingAt j (firstOf within (getD starts j 0)) (endOf within (getD starts j 0) j)) s → BestOf h bs limit (Turn within starts (j + 1)) s
+  best-bin within starts j b u c =
+      best-raised b u c (λ i m v. by-order m j (λ l. inl (l, v .1, v .2)) (λ l. let e : m ≡ j = omega arith in inr (e, rw e at (v .1), rw e at (v .2))))
 
   -- both turns
   pub best-turns : (starts : List ℕ) {r s : ℤ} → BestOf h bs limit (Turn true starts (length h)) r → r ≤ℤ s

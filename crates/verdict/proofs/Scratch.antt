@@ -14,7 +14,7 @@ use Rattle.lists.proofs.Parts.{total-take-add}
 use Rattle.pooling.specs.declared.Place.{Place}
 use Rattle.pooling.specs.Blocks.{Direction, blocks, places}
 use Rattle.pooling.proofs.Cuts.{begins-fits, PlaceOf, place-sum-le}
-use Rattle.pooling.proofs.Places.{places-apart, places-read}
+use Rattle.pooling.proofs.Places.{place-covers, places-apart, places-read}
 use Rattle.pooling.proofs.Laws.{blocks-cut}
 use Rattle.verdict.specs.Test.{placeOf, massWithin, massAcross, fittedMass}
 use Rattle.verdict.specs.Scratch.{RunningTotals, PlacesHeld, Across}
@@ -74,9 +74,21 @@ module _ (w : Direction) (h : List ℕ) (i : ℕ) (p : Place) (e : p ≡ placeOf
   pub spot-sum-le : i < length h → p .block .sum ≤ total h
   spot-sum-le l = place-sum-le (spot-place l)
 
+  -- it is that of every bin of its block
+  spot-covers : i < length h → (k : ℕ) → p .start ≤ k → k ≤ i → p ≡ placeOf (blocks w h) k
+  unfolding placeOf
+  spot-covers l k a b = let s = spot-place l in sym (place-covers s k a (omega (arith, s .to)))
+
+  -- a part within the block
+  pub spot-within : i < length h → (k : ℕ) → p .start ≤ k → k ≤ i → massWithin p k i ≡ fittedMass h (blocks w h) k i
+  spot-within l k a b =
+      let c = spot-covers l k a b in
+      ap (λ (x : Place). massWithin x k i) c ∙ sym (mass-same h (blocks w h) k i (ap (λ (x : Place). x .start) (sym c ∙ e)))
+
   module _ (j : ℕ) (q : Place) (f : q ≡ placeOf (blocks w h) j) where
-    pub spots-same : p .start ≡ q .start → massWithin p i j ≡ fittedMass h (blocks w h) i j
-    spots-same s = ap (λ (x : Place). massWithin x i j) e ∙ sym (mass-same h (blocks w h) i j (rw (e, f) at s))
+    -- a bin before the block of bin j lies in another
+    pub spots-differ : i < length h → i < q .start → ¬ (p .start ≡ q .start)
+    spots-differ l a n = omega (arith, spot-place l .from)
 
     pub spots-apart : ¬ (p .start ≡ q .start) → massAcross h p q i j ≡ fittedMass h (blocks w h) i j
     spots-apart n = ap₂ (λ (x y : Place). massAcross h x y i j) e f ∙ sym (mass-apart h (blocks w h) i j (rw (e, f) at n))

@@ -2,19 +2,19 @@
 --   gap                       d = |kB − A|: how far the count is from the fitted mass
 --   fittedRoom, countRoom     A·(NB − A) and kB·(NB − kB): the larger they are beside d², the smaller the weight
 --   a threshold c, t          s is small beside a room M if s ≤ M·c/2^(t + 4), rounded down
-use Prim.Native.Nat.{ℕ, _+_, _*_, _-_, _/_, _^_, _<_}
+use Prim.Native.Nat.{ℕ, _+_, _*_, _-_, _/_, _^_, _≤_, _<_}
 use mathlib.Core.Path.{_≡_}
 use mathlib.Core.Bool.{Bool, true, cond, _||_}
 use mathlib.Core.List.{List}
 use lib.Dec.{leb, ltb}
 use lib.IntN.{pos}
 use lib.Signed.{ltZ, _≤ℤ_}
-use Rattle.lists.specs.Lists.{total}
+use Rattle.lists.specs.Lists.{total, part}
 use Rattle.pooling.specs.declared.Block.{Block}
 use Rattle.verdict.specs.declared.Mass.{Mass}
 use Rattle.verdict.specs.declared.Threshold.{Threshold}
 use Rattle.verdict.specs.declared.Best.{Best}
-use Rattle.verdict.specs.Test.{weight, partWeight}
+use Rattle.verdict.specs.Test.{fittedMass, weight, partWeight}
 use Rattle.verdict.specs.Exactness.{LogsDefined}
 
 -- one of the two differences is 0
@@ -54,3 +54,7 @@ pub record Spares (n : ℕ) (b : Best) : Type 0 where
 pub record Tried (h : List ℕ) (bs : List Block) (i j : ℕ) (b r : Best) : Type 0 where
   pub larger : r .weight ≡ cond (ltZ (b .weight) (partWeight h bs i j)) (partWeight h bs i j) (b .weight)
   pub spares : Spares (total h) r
+
+-- the parts that end at bin j and begin from `first` up to, but not including, `end` are near
+abbrev pub NearUpTo : List ℕ → List Block → Threshold → ℕ → ℕ → ℕ → Type 0
+NearUpTo h bs t j first end = (i : ℕ) → first ≤ i → i < end → isNear (total h) (total (part i j h)) (fittedMass h bs i j) t ≡ true

@@ -4,6 +4,7 @@ mod against;
 mod costs;
 mod parts;
 mod reach;
+mod search;
 mod signed;
 mod weights;
 

@@ -5,9 +5,10 @@ use pooling::Place;
 ghost use mathlib.Core.Path.{_≡_};
 ghost use Prim.Native.Nat.{_≤_, _<_};
 ghost use lib.ListN.{length};
+ghost use Rattle.lists.specs.Lists.{total, part};
 ghost use Rattle.pooling.specs.Blocks.{direction, blocks};
 ghost use Rattle.verdict.specs.Test.{placeOf, massWithin, massOfThree, massAcross, fittedMass};
-ghost use Rattle.verdict.specs.Scratch.{Small, RunningTotals, PlacesHeld, Across, Scratch};
+ghost use Rattle.verdict.specs.Scratch.{Small, RunningTotals, PlacesHeld, Across, Scratch, Turn};
 
 pub fn wide(x: u32) -> u64
     ensures { λ r. ⌜ r ≡ x ⌝ }
@@ -29,6 +30,25 @@ pub fn running_totals(h: &[u32], before: &mut [u32; 258])
         i += 1;
         before[i] = sum;
     }
+}
+
+// How many counts a stretch has.
+pub fn all_counts(h: &[u32], before: &[u32; 258]) -> u64
+    requires { ⌜ Small (now h) ⌝ }
+    requires { ⌜ RunningTotals (now h) (now before) ⌝ }
+    ensures { λ r. ⌜ r ≡ total (now (h .entry)) ⌝ }
+{
+    wide(before[h.len()])
+}
+
+// How many counts the part from bin i to bin j has.
+pub fn part_counts(h: &[u32], before: &[u32; 258], i: usize, j: usize) -> u64
+    requires { ⌜ Small (now h) ⌝ }
+    requires { ⌜ RunningTotals (now h) (now before) ⌝ }
+    requires { ⌜ (i ≤ j) × (j < length (now h)) ⌝ }
+    ensures { λ r. ⌜ r ≡ total (part i j (now (h .entry))) ⌝ }
+{
+    wide(before[j + 1] - before[i])
 }
 
 // The place of bin i.
@@ -108,7 +128,7 @@ fn mass_across(h: &[u32], before: &[u32; 258], p: Place, q: Place, i: usize, j: 
     )
 }
 
-// The fitted mass of the part from bin i to bin j.
+// The fitted mass of the part from bin i to bin j, which a turn visits: all of it within the block of bin j, or across from an earlier one.
 pub fn part_mass(
     h: &[u32],
     rising: bool,
@@ -116,18 +136,19 @@ pub fn part_mass(
     starts: &[u32; 257],
     sums: &[u32; 257],
     lens: &[u32; 257],
+    within: bool,
     i: usize,
     j: usize,
 ) -> Mass
     requires { ⌜ Scratch (direction rising) (now h) (now before) (now starts) (now sums) (now lens) ⌝ }
-    requires { ⌜ (i ≤ j) × (j < length (now h)) ⌝ }
+    requires { ⌜ Turn within (now starts) (length (now h)) i j ⌝ }
     ensures { λ r. ⌜ r ≡ fittedMass (now (h .entry)) (blocks (direction rising) (now (h .entry))) i j ⌝ }
 {
-    let p = place_at(h, rising, starts, sums, lens, i);
     let q = place_at(h, rising, starts, sums, lens, j);
-    if p.start == q.start {
-        mass_within(p, i, j)
+    if within {
+        mass_within(q, i, j)
     } else {
+        let p = place_at(h, rising, starts, sums, lens, i);
         mass_across(h, before, p, q, i, j)
     }
 }

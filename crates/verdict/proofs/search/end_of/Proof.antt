@@ -1,8 +1,8 @@
 -- `end_of` meets its contract. Assumes nothing.
 use mathlib.Core.Path.{refl}
 use borrow.Author.Needs.{needs}
-use Rattle.verdict.proofs.costs.end_of.Statement.{statement}
-use Rattle.verdict.proofs.costs.end_of.Tie as tie
+use Rattle.verdict.proofs.search.end_of.Statement.{statement}
+use Rattle.verdict.proofs.search.end_of.Tie as tie
 
 add-result : tie.Need-add-result
 add-result c = search needs
