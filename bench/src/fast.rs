@@ -87,7 +87,13 @@ pub fn verdict(histogram: &[u32], rising: bool, closeness: i32) -> (i64, bool) {
 
 /// A bin is followed by a lower one, or by a higher one if the fit falls.
 fn has_step_against(histogram: &[u32], rising: bool) -> bool {
-    let against = |pair: &[u32]| if rising { pair[1] < pair[0] } else { pair[0] < pair[1] };
+    let against = |pair: &[u32]| {
+        if rising {
+            pair[1] < pair[0]
+        } else {
+            pair[0] < pair[1]
+        }
+    };
     histogram.windows(2).any(against)
 }
 
