@@ -10,33 +10,62 @@ use reference::calls::CardAnswer;
 use std::hint::black_box;
 use std::process::ExitCode;
 
-/// So little that a grey yarn's pixels all stay grey.
-const NOISE: u32 = 2;
+/// How cloths are made: each of these numbers of yarns at each side.
+struct Kind {
+    /// What the names of such cloths end with.
+    ending: &'static str,
+    noise: u32,
+    yarns: &'static [usize],
+    /// Those with so many yarns are given to the other programs too.
+    shown: Option<usize>,
+}
+
+const KINDS: [Kind; 2] = [
+    // So little noise that a grey yarn's pixels all stay grey.
+    Kind {
+        ending: "",
+        noise: 2,
+        yarns: &[3, 5, 8, 12],
+        shown: Some(8),
+    },
+    // So much that a grey yarn's pixels spread into every hue, and a card has entries that are no yarns.
+    Kind {
+        ending: ", noise 12",
+        noise: 12,
+        yarns: &[5, 8],
+        shown: None,
+    },
+];
 const SIDES: [usize; 2] = [128, 256];
-const YARNS: [usize; 4] = [3, 5, 8, 12];
-/// The cloth that the other programs are given.
-const SHOWN: usize = 8;
 
 pub struct Cloth {
     name: String,
     swatch: Swatch,
-    yarns: usize,
+    shown: bool,
 }
 
+/// Those of the first kind come first, so that a new kind leaves the numbers of the others as they are.
 pub fn cloths() -> Vec<Cloth> {
     let mut cloths = Vec::new();
-    for side in SIDES {
-        for count in YARNS {
-            let mut random = Random::new(count as u64);
-            let yarns = yarns(&mut random, count);
-            cloths.push(Cloth {
-                name: format!("{side} x {side}, {count} yarns"),
-                swatch: woven(&mut random, side, side, &yarns, NOISE),
-                yarns: count,
-            });
+    for kind in KINDS {
+        for side in SIDES {
+            cloths.extend(kind.yarns.iter().map(|&count| kind.cloth(side, count)));
         }
     }
     cloths
+}
+
+impl Kind {
+    /// Cloths of as many yarns have the same yarns, whatever the side and the noise.
+    fn cloth(&self, side: usize, count: usize) -> Cloth {
+        let mut random = Random::new(count as u64);
+        let yarns = yarns(&mut random, count);
+        Cloth {
+            name: format!("{side} x {side}, {count} yarns{}", self.ending),
+            swatch: woven(&mut random, side, side, &yarns, self.noise),
+            shown: self.shown == Some(count),
+        }
+    }
 }
 
 /// Several closenesses, though only one is timed.
@@ -83,7 +112,7 @@ pub fn once(number: &str) -> ExitCode {
 pub fn time(cloths: &[Cloth]) {
     let times: Vec<f64> = cloths.iter().map(time_card).collect();
     for (cloth, engine) in cloths.iter().zip(times) {
-        if cloth.yarns == SHOWN {
+        if cloth.shown {
             let entries = fast_card(&cloth.swatch.bytes(), CLOSENESS).0.len;
             imagequant::time(&cloth.name, &cloth.swatch, entries);
             others::time(&cloth.name, &cloth.swatch, entries, engine);

@@ -1,7 +1,7 @@
 //! libimagequant, the library behind pngquant, if it is installed. It is loaded when the bench runs, so that the bench
 //! builds without it. It and the engine are called in one process on the same pixels, and take turns.
 
-use crate::{medians, print, CLOSENESS};
+use crate::{medians, print, CLOSENESS, NAME_WIDTH};
 use cloths::swatch::Swatch;
 use std::ffi::{c_char, c_double, c_float, c_int, c_void, CStr};
 use std::hint::black_box;
@@ -109,7 +109,10 @@ impl Picture {
 /// The second time is the library's: as many colours as the card has entries, each pixel's place, nothing dithered.
 pub fn time(name: &str, swatch: &Swatch, entries: u32) {
     let Some(library) = Library::open() else {
-        println!("{:32} not installed", format!("libimagequant, {name}"));
+        println!(
+            "{:NAME_WIDTH$} not installed",
+            format!("libimagequant, {name}")
+        );
         return;
     };
     let picture = Picture::of(swatch);
@@ -119,7 +122,7 @@ pub fn time(name: &str, swatch: &Swatch, entries: u32) {
     let wrong = library.quantize(&picture, colours, &mut second);
     if wrong != 0 {
         println!(
-            "{:32} not timed: it said {wrong}",
+            "{:NAME_WIDTH$} not timed: it said {wrong}",
             format!("libimagequant, {name}")
         );
         return;

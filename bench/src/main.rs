@@ -34,6 +34,8 @@ const ROUND_NANOSECONDS: f64 = 4e6;
 const CASE_NANOSECONDS: f64 = 4e9;
 pub const CLOSENESS: i32 = 0;
 const RISING: bool = true;
+/// The columns of what is timed.
+pub const NAME_WIDTH: usize = 36;
 
 fn main() -> ExitCode {
     let words: Vec<String> = std::env::args().skip(1).collect();
@@ -66,7 +68,7 @@ fn main() -> ExitCode {
         return ExitCode::FAILURE;
     }
     println!(
-        "{:32} {:>12} {:>12} {:>7}",
+        "{:NAME_WIDTH$} {:>12} {:>12} {:>7}",
         "", "engine, ns", "Rust, ns", "ratio"
     );
     for case in fits {
@@ -245,7 +247,7 @@ fn per_call(calls: u32, call: &mut impl FnMut()) -> f64 {
 
 pub fn print(call: &str, name: &str, [engine, fast, ratio]: [f64; 3], share: &str) {
     println!(
-        "{:32} {engine:12.0} {fast:12.0} {ratio:7.2}  {share}",
+        "{:NAME_WIDTH$} {engine:12.0} {fast:12.0} {ratio:7.2}  {share}",
         format!("{call}, {name}")
     );
 }

@@ -3,6 +3,7 @@
 //! and writing files; the time on a picture of four pixels shows how long that takes alone.
 
 use crate::picture::png;
+use crate::NAME_WIDTH;
 use cloths::swatch::Swatch;
 use std::env;
 use std::fs;
@@ -50,7 +51,7 @@ pub fn time(name: &str, swatch: &Swatch, entries: u32, engine: f64) {
     for (title, program, arguments) in PROGRAMS {
         let heading = format!("{title}, {name}");
         if !installed(program) {
-            println!("{heading:32} not installed");
+            println!("{heading:NAME_WIDTH$} not installed");
             continue;
         }
         let whole = median(arguments, swatch, colours);
@@ -59,10 +60,12 @@ pub fn time(name: &str, swatch: &Swatch, entries: u32, engine: f64) {
             (Ok(whole), Ok(start)) => {
                 let times = (whole - start) / engine;
                 println!(
-                    "{heading:32} {whole:12.0} {start:12.0} without a picture; the rest is {times:.1} of the engine"
+                    "{heading:NAME_WIDTH$} {whole:12.0} {start:12.0} without a picture; the rest is {times:.1} of the engine"
                 )
             }
-            (Err(wrong), _) | (_, Err(wrong)) => println!("{heading:32} not timed: {wrong}"),
+            (Err(wrong), _) | (_, Err(wrong)) => {
+                println!("{heading:NAME_WIDTH$} not timed: {wrong}")
+            }
         }
     }
 }
