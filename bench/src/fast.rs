@@ -1,8 +1,8 @@
 //! The fit, the verdict and the modes of a served histogram, written for speed: what a careful Rust program would do.
 //! It is compared with the reference before anything is timed.
 
+use crate::fast_weight::{bar, Largest, Part};
 use reference::calls::MOST_BINS;
-use reference::logarithm::ROUNDS;
 use std::convert::Infallible;
 use std::ops::{ControlFlow, Range, RangeInclusive};
 
@@ -73,16 +73,31 @@ pub fn fit(histogram: &[u32], rising: bool) -> ([u32; MOST_BINS], [u32; MOST_BIN
 }
 
 pub fn verdict(histogram: &[u32], rising: bool, closeness: i32) -> (i64, bool) {
-    let total = total(histogram);
-    // The whole stretch weighs 0, and so does a part whose fitted mass is its count.
-    let mut largest = 0;
-    each_part(histogram, rising, |part| {
-        if part.mass != part.count * part.over {
-            largest = largest.max(weight(part, total));
-        }
-    });
-    let cost = largest - bar(histogram, closeness);
+    let largest = largest_weight(histogram, rising, &mut ());
+    let cost = largest - bar(histogram.len(), closeness);
     (cost, cost >= 0 && has_step_against(histogram, rising))
+}
+
+#[inline(always)]
+fn largest_weight(histogram: &[u32], rising: bool, tally: &mut impl Tally) -> i64 {
+    let mut stack = [NO_BLOCK; MOST_BINS];
+    let mut largest = Largest::new(total(histogram));
+    let blocks = pool(histogram, rising, &mut stack);
+    let mut visit = |part| {
+        tally.part();
+        if !largest.covers(part) {
+            tally.logarithms();
+            largest.raise(largest.weigh(part));
+        }
+        ControlFlow::<Infallible>::Continue(())
+    };
+    for index in 0..blocks.len() {
+        for first in blocks[index].bins() {
+            let _ = inside(histogram, &blocks[index], first, &mut visit);
+            let _ = across(histogram, &blocks[index..], first, &mut visit);
+        }
+    }
+    largest.weight
 }
 
 /// A bin is followed by a lower one, or by a higher one if the fit falls.
@@ -97,33 +112,40 @@ fn has_step_against(histogram: &[u32], rising: bool) -> bool {
     histogram.windows(2).any(against)
 }
 
-/// The cost where that is below the cap, else a number at or above the cap: the search ends at the first part that
-/// brings the cost there. Parts inside one block come first, since the largest weight is most often among them.
+/// The cost where that is below the cap, else a number at or above the cap: the search ends at the first part that is
+/// sure to bring the cost there.
 fn capped_cost(
     histogram: &[u32],
     rising: bool,
     closeness: i32,
     cap: i64,
     stack: &mut [Block; MOST_BINS],
+    tally: &mut impl Tally,
 ) -> i64 {
-    let bar = bar(histogram, closeness);
+    let bar = bar(histogram.len(), closeness);
     let enough = cap + bar;
-    let mut largest = 0;
-    if largest < enough {
-        let total = total(histogram);
+    let mut largest = Largest::new(total(histogram));
+    if largest.weight < enough {
+        tally.bins(histogram.len());
         let _ = search(histogram, pool(histogram, rising, stack), |part| {
-            if part.mass != part.count * part.over {
-                largest = largest.max(weight(part, total));
-                if largest >= enough {
-                    return ControlFlow::Break(());
-                }
+            tally.part();
+            if largest.covers(part) {
+                return ControlFlow::Continue(());
+            }
+            tally.past_bound();
+            tally.logarithms();
+            largest.raise(largest.weigh(part));
+            if largest.weight >= enough {
+                return ControlFlow::Break(());
             }
             ControlFlow::Continue(())
         });
     }
-    largest - bar
+    largest.weight - bar
 }
 
+/// All parts, until a visit stops the search. Those inside one block come first, since the largest weight is most often
+/// among them.
 #[inline(always)]
 fn search(
     histogram: &[u32],
@@ -147,43 +169,37 @@ fn total(histogram: &[u32]) -> u64 {
     histogram.iter().map(|&bin| u64::from(bin)).sum()
 }
 
-fn bar(histogram: &[u32], closeness: i32) -> i64 {
-    let bins = histogram.len() as u64;
-    lg([bins * (bins + 1) / 2])[0] as i64 + (i64::from(closeness) << ROUNDS)
+/// Told of the work that is done, if anyone wants to know; `()` does not, and costs nothing.
+pub trait Tally {
+    /// So many bins are pooled.
+    fn bins(&mut self, _bins: usize) {}
+    fn part(&mut self) {}
+    /// The part before is not covered by the bound in whole numbers.
+    fn past_bound(&mut self) {}
+    /// The part before is weighed.
+    fn logarithms(&mut self) {}
 }
+
+impl Tally for () {}
 
 /// How many parts there are, and how many of them need no logarithm.
 pub fn spared(histogram: &[u32], rising: bool) -> (usize, usize) {
-    let (mut parts, mut spared) = (0, 0);
-    each_part(histogram, rising, |part| {
-        parts += 1;
-        spared += usize::from(part.mass == part.count * part.over);
-    });
-    (parts, spared)
-}
-
-/// A part's count k and fitted mass A/B.
-#[derive(Clone, Copy)]
-struct Part {
-    count: u64,
-    mass: u64,
-    over: u64,
-}
-
-#[inline(always)]
-fn each_part(histogram: &[u32], rising: bool, mut visit: impl FnMut(Part)) {
-    let mut stack = [NO_BLOCK; MOST_BINS];
-    let blocks = pool(histogram, rising, &mut stack);
-    let mut visit = |part| {
-        visit(part);
-        ControlFlow::<Infallible>::Continue(())
-    };
-    for index in 0..blocks.len() {
-        for first in blocks[index].bins() {
-            let _ = inside(histogram, &blocks[index], first, &mut visit);
-            let _ = across(histogram, &blocks[index..], first, &mut visit);
+    #[derive(Default)]
+    struct Parts {
+        all: usize,
+        weighed: usize,
+    }
+    impl Tally for Parts {
+        fn part(&mut self) {
+            self.all += 1;
+        }
+        fn logarithms(&mut self) {
+            self.weighed += 1;
         }
     }
+    let mut parts = Parts::default();
+    largest_weight(histogram, rising, &mut parts);
+    (parts.all, parts.all - parts.weighed)
 }
 
 /// The parts from a bin of the block to a bin of the same block, until a visit stops them.
@@ -234,40 +250,6 @@ fn across<S>(
     ControlFlow::Continue(())
 }
 
-#[inline(always)]
-fn weight(part: Part, total: u64) -> i64 {
-    let Part { count, mass, over } = part;
-    let outside = total - count;
-    let outside_mass = total * over - mass;
-    if count == 0 {
-        let [a, b] = lg([outside * over, outside_mass]);
-        outside as i64 * (a as i64 - b as i64)
-    } else if outside == 0 {
-        let [a, b] = lg([count * over, mass]);
-        count as i64 * (a as i64 - b as i64)
-    } else {
-        let [a, b, c, d] = lg([count * over, mass, outside * over, outside_mass]);
-        count as i64 * (a as i64 - b as i64) + outside as i64 * (c as i64 - d as i64)
-    }
-}
-
-/// Several logarithms side by side, which hides the latency of the squares.
-#[inline(always)]
-fn lg<const LANES: usize>(numbers: [u64; LANES]) -> [u64; LANES] {
-    let whole = numbers.map(|x| 63 - u64::from(x.leading_zeros()));
-    let mut y: [u64; LANES] = std::array::from_fn(|lane| numbers[lane] << (31 - whole[lane]));
-    let mut bits = whole;
-    for _ in 0..ROUNDS {
-        for lane in 0..LANES {
-            let square = y[lane] * y[lane];
-            let high = square >= 1 << 63;
-            y[lane] = if high { square >> 32 } else { square >> 31 };
-            bits[lane] = 2 * bits[lane] + u64::from(high);
-        }
-    }
-    bits
-}
-
 /// The segments of a line: one more separator than peaks.
 struct Segments {
     separators: [usize; MOST_BINS],
@@ -284,10 +266,20 @@ struct Join {
 
 /// How many separators there are; they are the first places of the list, which has one for each bin or more.
 pub fn line_modes(histogram: &[u32], closeness: i32, list: &mut [u32]) -> usize {
+    tallied_line_modes(histogram, closeness, list, &mut ())
+}
+
+pub fn tallied_line_modes(
+    histogram: &[u32],
+    closeness: i32,
+    list: &mut [u32],
+    tally: &mut impl Tally,
+) -> usize {
     let mut segments = first_segments(histogram);
     let mut stack = [NO_BLOCK; MOST_BINS];
     let mut cost = |bins: RangeInclusive<usize>, rising, cap| {
-        capped_cost(&histogram[bins], rising, closeness, cap, &mut stack)
+        let stretch = &histogram[bins];
+        capped_cost(stretch, rising, closeness, cap, &mut stack, tally)
     };
     while let Some(join) = segments.next_join(&mut cost) {
         segments.join(&join);

@@ -15,6 +15,7 @@ mod cards;
 mod cases;
 mod fast;
 mod fast_cards;
+mod fast_weight;
 mod imagequant;
 mod others;
 mod picture;

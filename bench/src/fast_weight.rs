@@ -1,0 +1,117 @@
+//! The weight of a part, written for speed: most parts are told apart from the heaviest one by bounds that need no
+//! logarithm.
+//!
+//! A part has x = kB counts against a fitted mass of A, out of T = NB for the whole stretch. With p = x/T and q = A/T,
+//! ln(X/Y) is N times the relative entropy p ln(p/q) + (1 - p) ln((1 - p)/(1 - q)), and that is the integral of
+//! (t - p) g(t) for t from p to q, with g(t) = 1/(t(1 - t)), which is convex. So with d = |x - A|, D = A(T - A) and
+//! E = x(T - x) the relative entropy is
+//!
+//! - at most d²/D: by the inequality of weighted means it is at most ln(1 + d²/D);
+//! - at most d²/(2 min(D, E)), since g is largest at one end.
+//!
+//! The weight is 2^ROUNDS/ln 2 times ln(X/Y), give or take 2N units, since a logarithm is short by 2 units at most (L4).
+
+use reference::logarithm::ROUNDS;
+
+/// A part's count k and fitted mass A/B.
+#[derive(Clone, Copy)]
+pub struct Part {
+    pub count: u64,
+    pub mass: u64,
+    pub over: u64,
+}
+
+/// The largest weight so far, of a stretch of so many counts; the whole stretch weighs 0.
+pub struct Largest {
+    pub weight: i64,
+    total: u64,
+    /// (weight - 2N) ln 2 / (N 2^ROUNDS), the least relative entropy that could weigh more: in units of 1/2^64, rounded
+    /// down, and 0 as long as it is below 0.
+    entropy: u64,
+}
+
+/// With the 26 places of the units and the 26 of LN_2 they make 64.
+const QUOTIENT_PLACES: u32 = 12;
+/// ln 2 with 26 places, rounded down.
+const LN_2: u64 = 46_516_319;
+
+impl Largest {
+    pub fn new(total: u64) -> Largest {
+        Largest {
+            weight: 0,
+            total,
+            entropy: 0,
+        }
+    }
+
+    /// Whether the part is sure to weigh no more, by the two bounds.
+    #[inline(always)]
+    pub fn covers(&self, part: Part) -> bool {
+        let Part { count, mass, over } = part;
+        let counted = count * over;
+        if counted == mass {
+            return true;
+        }
+        let all = self.total * over;
+        let apart = counted.abs_diff(mass);
+        let fitted_room = mass * (all - mass);
+        let counted_room = counted * (all - counted);
+        let room = fitted_room.max(2 * fitted_room.min(counted_room));
+        apart * apart <= high(room, self.entropy)
+    }
+
+    #[inline(always)]
+    pub fn raise(&mut self, weight: i64) {
+        if weight > self.weight {
+            self.weight = weight;
+            let sure = (weight - 2 * self.total as i64).max(0) as u64;
+            // Below 2^48, so that the shift keeps all its bits.
+            self.entropy = ((sure << QUOTIENT_PLACES) / self.total).saturating_mul(LN_2);
+        }
+    }
+
+    #[inline(always)]
+    pub fn weigh(&self, part: Part) -> i64 {
+        let Part { count, mass, over } = part;
+        let outside = self.total - count;
+        let outside_mass = self.total * over - mass;
+        if count == 0 {
+            let [a, b] = lg([outside * over, outside_mass]);
+            outside as i64 * (a as i64 - b as i64)
+        } else if outside == 0 {
+            let [a, b] = lg([count * over, mass]);
+            count as i64 * (a as i64 - b as i64)
+        } else {
+            let [a, b, c, d] = lg([count * over, mass, outside * over, outside_mass]);
+            count as i64 * (a as i64 - b as i64) + outside as i64 * (c as i64 - d as i64)
+        }
+    }
+}
+
+/// The upper 64 bits of a product.
+fn high(a: u64, b: u64) -> u64 {
+    ((u128::from(a) * u128::from(b)) >> 64) as u64
+}
+
+/// The bar of a stretch of so many bins.
+pub fn bar(bins: usize, closeness: i32) -> i64 {
+    let bins = bins as u64;
+    lg([bins * (bins + 1) / 2])[0] as i64 + (i64::from(closeness) << ROUNDS)
+}
+
+/// Several logarithms side by side, which hides the latency of the squares.
+#[inline(always)]
+fn lg<const LANES: usize>(numbers: [u64; LANES]) -> [u64; LANES] {
+    let whole = numbers.map(|x| 63 - u64::from(x.leading_zeros()));
+    let mut y: [u64; LANES] = std::array::from_fn(|lane| numbers[lane] << (31 - whole[lane]));
+    let mut bits = whole;
+    for _ in 0..ROUNDS {
+        for lane in 0..LANES {
+            let square = y[lane] * y[lane];
+            let high = square >= 1 << 63;
+            y[lane] = if high { square >> 32 } else { square >> 31 };
+            bits[lane] = 2 * bits[lane] + u64::from(high);
+        }
+    }
+    bits
+}
