@@ -1,5 +1,5 @@
 //! The weight of a part, written for speed: most parts are told apart from the heaviest one by bounds that need no
-//! logarithm.
+//! logarithm, and small logarithms are read from a sheet.
 //!
 //! A part has x = kB counts against a fitted mass of A, out of T = NB for the whole stretch. With p = x/T and q = A/T,
 //! ln(X/Y) is N times the relative entropy p ln(p/q) + (1 - p) ln((1 - p)/(1 - q)), and that is the integral of
@@ -11,6 +11,7 @@
 //!
 //! The weight is 2^ROUNDS/ln 2 times ln(X/Y), give or take 2N units, since a logarithm is short by 2 units at most (L4).
 
+use reference::calls::MOST_BINS;
 use reference::logarithm::ROUNDS;
 
 /// A part's count k and fitted mass A/B.
@@ -95,13 +96,68 @@ fn high(a: u64, b: u64) -> u64 {
 
 /// The bar of a stretch of so many bins.
 pub fn bar(bins: usize, closeness: i32) -> i64 {
-    let bins = bins as u64;
-    lg([bins * (bins + 1) / 2])[0] as i64 + (i64::from(closeness) << ROUNDS)
+    i64::from(BARS[bins]) + (i64::from(closeness) << ROUNDS)
 }
 
-/// Several logarithms side by side, which hides the latency of the squares.
+/// The bars at closeness 0, by the number of bins, since every stretch needs its bar. No bins have none.
+static BARS: [u32; MOST_BINS + 1] = bars();
+
+const fn bars() -> [u32; MOST_BINS + 1] {
+    let mut table = [0; MOST_BINS + 1];
+    let mut bins = 1;
+    while bins < table.len() {
+        table[bins] = one_lg((bins * (bins + 1) / 2) as u64) as u32;
+        bins += 1;
+    }
+    table
+}
+
+/// Odd numbers below this are on the sheet.
+const SHEET_END: usize = 8_192;
+/// The logarithms of 1, 3, 5 and so on: a factor of 2 adds one bit exactly.
+static SHEET: [u32; SHEET_END / 2] = sheet();
+
+const fn sheet() -> [u32; SHEET_END / 2] {
+    let mut table = [0; SHEET_END / 2];
+    let mut place = 0;
+    while place < table.len() {
+        table[place] = one_lg(2 * place as u64 + 1) as u32;
+        place += 1;
+    }
+    table
+}
+
+const fn one_lg(x: u64) -> u64 {
+    let mut bits = x.ilog2() as u64;
+    let mut y = x << (31 - x.ilog2());
+    let mut round = 0;
+    while round < ROUNDS {
+        let high = (y * y) >> 63;
+        y = (y * y) >> (31 + high);
+        bits = 2 * bits + high;
+        round += 1;
+    }
+    bits
+}
+
+/// Several logarithms at once. They are read from the sheet only if all are on it: the rounds of one take nearly as long
+/// as those of four.
 #[inline(always)]
 fn lg<const LANES: usize>(numbers: [u64; LANES]) -> [u64; LANES] {
+    let twos = numbers.map(u64::trailing_zeros);
+    let odd: [u64; LANES] = std::array::from_fn(|lane| numbers[lane] >> twos[lane]);
+    if odd.iter().all(|&odd| odd < SHEET_END as u64) {
+        let read =
+            |lane| u64::from(SHEET[odd[lane] as usize / 2]) + (u64::from(twos[lane]) << ROUNDS);
+        std::array::from_fn(read)
+    } else {
+        lg_by_rounds(numbers)
+    }
+}
+
+/// Side by side, which hides the latency of the squares.
+#[inline(always)]
+fn lg_by_rounds<const LANES: usize>(numbers: [u64; LANES]) -> [u64; LANES] {
     let whole = numbers.map(|x| 63 - u64::from(x.leading_zeros()));
     let mut y: [u64; LANES] = std::array::from_fn(|lane| numbers[lane] << (31 - whole[lane]));
     let mut bits = whole;
