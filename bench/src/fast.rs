@@ -85,7 +85,7 @@ fn largest_weight(histogram: &[u32], rising: bool, tally: &mut impl Tally) -> i6
     let blocks = pool(histogram, rising, &mut stack);
     let mut visit = |part| {
         tally.part();
-        if !largest.covers(part) {
+        if !largest.covers(part) && !largest.covers_closely(part) {
             tally.logarithms();
             largest.raise(largest.weigh(part));
         }
@@ -133,10 +133,16 @@ fn capped_cost(
                 return ControlFlow::Continue(());
             }
             tally.past_bound();
-            tally.logarithms();
-            largest.raise(largest.weigh(part));
-            if largest.weight >= enough {
+            if largest.reaches(part, enough) {
+                largest.weight = enough;
                 return ControlFlow::Break(());
+            }
+            if !largest.covers_closely(part) {
+                tally.logarithms();
+                largest.raise(largest.weigh(part));
+                if largest.weight >= enough {
+                    return ControlFlow::Break(());
+                }
             }
             ControlFlow::Continue(())
         });

@@ -7,7 +7,9 @@
 //! E = x(T - x) the relative entropy is
 //!
 //! - at most d²/D: by the inequality of weighted means it is at most ln(1 + d²/D);
-//! - at most d²/(2 min(D, E)), since g is largest at one end.
+//! - at most d²/(2 min(D, E)), since g is largest at one end;
+//! - at most d²(D + 2E)/(6DE), where g is replaced by its chord, which lies above it;
+//! - at least 9d²/(2m(3T - m)) with m = x + 2A, where g is replaced by its value at the mean of t, which is (p + 2q)/3.
 //!
 //! The weight is 2^ROUNDS/ln 2 times ln(X/Y), give or take 2N units, since a logarithm is short by 2 units at most (L4).
 
@@ -36,6 +38,12 @@ const QUOTIENT_PLACES: u32 = 12;
 /// ln 2 with 26 places, rounded down.
 const LN_2: u64 = 46_516_319;
 
+/// Far more than all roundings of one comparison in floating point together: fewer than 16, each by less than 2^-52.
+const MARGIN: f64 = 1.0 / (1u64 << 40) as f64;
+const UNITS: f64 = (1u64 << ROUNDS) as f64 / std::f64::consts::LN_2;
+const UNITS_AT_LEAST: f64 = UNITS * (1.0 - MARGIN);
+const UNITS_AT_MOST: f64 = UNITS * (1.0 + MARGIN);
+
 impl Largest {
     pub fn new(total: u64) -> Largest {
         Largest {
@@ -45,7 +53,7 @@ impl Largest {
         }
     }
 
-    /// Whether the part is sure to weigh no more, by the two bounds.
+    /// Whether the part is sure to weigh no more, by the first two bounds.
     #[inline(always)]
     pub fn covers(&self, part: Part) -> bool {
         let Part { count, mass, over } = part;
@@ -59,6 +67,30 @@ impl Largest {
         let counted_room = counted * (all - counted);
         let room = fitted_room.max(2 * fitted_room.min(counted_room));
         apart * apart <= high(room, self.entropy)
+    }
+
+    /// The same by the third bound, which is much closer and takes longer.
+    #[inline(always)]
+    pub fn covers_closely(&self, part: Part) -> bool {
+        let Part { count, mass, over } = part;
+        let (total, mass, over) = (self.total as f64, mass as f64, over as f64);
+        let (all, counted) = (total * over, count as f64 * over);
+        let apart = counted - mass;
+        let (fitted_room, counted_room) = (mass * (all - mass), counted * (all - counted));
+        let most = UNITS_AT_MOST * total * apart * apart * (fitted_room + 2.0 * counted_room);
+        most <= (self.weight as f64 - 2.0 * total) * 6.0 * fitted_room * counted_room
+    }
+
+    /// Whether the part is sure to weigh so much.
+    #[inline(always)]
+    pub fn reaches(&self, part: Part, weight: i64) -> bool {
+        let Part { count, mass, over } = part;
+        let (total, mass, over) = (self.total as f64, mass as f64, over as f64);
+        let (all, counted) = (total * over, count as f64 * over);
+        let apart = counted - mass;
+        let mean = counted + 2.0 * mass;
+        let least = UNITS_AT_LEAST * total * apart * apart * 9.0;
+        least >= (weight as f64 + 2.0 * total) * 2.0 * mean * (3.0 * all - mean)
     }
 
     #[inline(always)]
@@ -170,4 +202,55 @@ fn lg_by_rounds<const LANES: usize>(numbers: [u64; LANES]) -> [u64; LANES] {
         }
     }
     bits
+}
+
+#[cfg(test)]
+mod tests {
+    use super::*;
+    use cloths::random::Random;
+    use reference::test::parts;
+
+    /// Histograms of up to 40 bins, from nearly empty to full.
+    fn histograms() -> Vec<Vec<u64>> {
+        let mut random = Random::new(1);
+        let mut histogram = || {
+            let most = 1 << random.below(11);
+            (0..2 + random.below(39))
+                .map(|_| random.below(most + 1) as u64)
+                .collect()
+        };
+        (0..200).map(|_| histogram()).collect()
+    }
+
+    fn each_weight(mut check: impl FnMut(u64, Part, i64)) {
+        for histogram in histograms() {
+            let total = histogram.iter().sum();
+            for part in parts(&histogram, true) {
+                let weight = part.weight(total);
+                let reference::test::Part { count, mass, over } = part;
+                check(total, Part { count, mass, over }, weight);
+            }
+        }
+    }
+
+    #[test]
+    fn weights_are_those_of_the_reference() {
+        each_weight(|total, part, weight| {
+            if part.mass != part.count * part.over {
+                assert_eq!(Largest::new(total).weigh(part), weight);
+            }
+        });
+    }
+
+    #[test]
+    fn no_bound_says_too_much() {
+        each_weight(|total, part, weight| {
+            let mut largest = Largest::new(total);
+            assert!(part.mass == part.count * part.over || !largest.reaches(part, weight + 1));
+            if weight > 0 {
+                largest.raise(weight - 1);
+                assert!(!largest.covers(part) && !largest.covers_closely(part));
+            }
+        });
+    }
 }
