@@ -1,12 +1,13 @@
 //! The histograms that are timed: the same in every run.
 
+use reference::calls::MOST_BINS;
+
 /// A name and a histogram. Fits and verdicts are increasing.
 pub struct Case {
     pub name: &'static str,
     pub histogram: Vec<u32>,
 }
 
-const MOST_BINS: usize = 256;
 const SMALLER_BINS: usize = 32;
 const HUE_BINS: usize = 60;
 const INTENSITY_BINS: usize = 52;

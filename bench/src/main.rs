@@ -5,7 +5,8 @@
 //!     cargo run --release
 //!
 //! KISTROVU_LIB names another folder to take `libkistrovu.a` from; `--only cards` times only cards, and `--once N` makes the
-//! card of cloth N (from 1) once each way and times nothing, for a program that counts instructions. Both are first compared
+//! card of cloth N (from 1) once each way and times nothing, for a program that counts instructions; `--climb` looks for a
+//! line that takes long, for about SECONDS, from a SEED. Both are first compared
 //! with the reference; a wrong answer is not timed and ends the run. Where the reference would take too long for a line,
 //! shorter lines of the same kind are compared with it, and at full length the engine is compared with the Rust program.
 //! The two take turns in short rounds, and the figures are medians over the rounds: times of different runs do not compare
@@ -13,6 +14,7 @@
 
 mod cards;
 mod cases;
+mod climb;
 mod fast;
 mod fast_cards;
 mod fast_weight;
@@ -45,8 +47,9 @@ fn main() -> ExitCode {
         [] => false,
         ["--only", "cards"] => true,
         ["--once", number] => return cards::once(number),
+        ["--climb", ref rest @ ..] if rest.len() <= 2 => return climb::run(rest),
         _ => {
-            eprintln!("usage: bench [--only cards | --once N]");
+            eprintln!("usage: bench [--only cards | --once N | --climb [SECONDS [SEED]]]");
             return ExitCode::from(2);
         }
     };
@@ -68,10 +71,7 @@ fn main() -> ExitCode {
         eprintln!("not timed, wrong: {}", wrong.join("; "));
         return ExitCode::FAILURE;
     }
-    println!(
-        "{:NAME_WIDTH$} {:>12} {:>12} {:>7}",
-        "", "engine, ns", "Rust, ns", "ratio"
-    );
+    print_heading();
     for case in fits {
         time_fit(case);
     }
@@ -244,6 +244,13 @@ fn per_call(calls: u32, call: &mut impl FnMut()) -> f64 {
         call();
     }
     start.elapsed().as_nanos() as f64 / f64::from(calls)
+}
+
+fn print_heading() {
+    println!(
+        "{:NAME_WIDTH$} {:>12} {:>12} {:>7}",
+        "", "engine, ns", "Rust, ns", "ratio"
+    );
 }
 
 pub fn print(call: &str, name: &str, [engine, fast, ratio]: [f64; 3], share: &str) {
