@@ -28,7 +28,7 @@ const KINDS: [Kind; 2] = [
         yarns: &[3, 5, 8, 12],
         shown: Some(8),
     },
-    // So much that a grey yarn's pixels spread into every hue, and a card has entries that are no yarns.
+    // So much that many of a grey yarn's pixels come out coloured, in any hue.
     Kind {
         ending: ", noise 12",
         noise: 12,

@@ -87,6 +87,7 @@ pub fn lines() -> Vec<LineCase> {
         long("256 bins, alternating 0, 256", high_alternating),
         long("256 bins, alternating 0, 1", alternating),
         long("256 bins, alternating heights", distinct_alternating),
+        long("256 bins, found by the climb", climbed),
     ]
 }
 
@@ -121,6 +122,24 @@ fn distinct_alternating(bins: usize) -> Vec<u32> {
     (0..bins)
         .map(|bin| (height(bin) + (bin % 2) * (half + half / 2)) as u32)
         .collect()
+}
+
+/// The worst line that the climb has found so far: for the most part highs of up to 17 between lows of 0 or 1. About a
+/// thousand parts of a stretch are visited before it is settled.
+const CLIMBED: [u32; MOST_BINS] = [
+    1, 7, 0, 2, 0, 10, 0, 12, 1, 15, 0, 7, 0, 9, 6, 0, 12, 1, 13, 0, 2, 1, 8, 0, 11, 0, 11, 0, 12,
+    0, 9, 0, 1, 0, 8, 10, 0, 8, 1, 4, 0, 7, 0, 1, 0, 11, 0, 6, 0, 14, 1, 5, 0, 14, 0, 0, 2, 4, 5,
+    0, 14, 0, 0, 1, 4, 0, 16, 0, 10, 0, 8, 0, 9, 1, 9, 0, 6, 0, 0, 3, 0, 11, 0, 12, 1, 9, 0, 1, 2,
+    5, 8, 0, 7, 0, 10, 0, 7, 0, 1, 0, 13, 0, 9, 0, 15, 0, 9, 0, 2, 3, 2, 15, 0, 1, 0, 15, 0, 4, 0,
+    2, 0, 11, 0, 7, 0, 1, 0, 5, 0, 14, 0, 1, 0, 4, 0, 16, 0, 8, 0, 9, 0, 6, 0, 7, 0, 0, 0, 17, 0,
+    15, 1, 1, 1, 12, 0, 14, 0, 11, 0, 10, 0, 1, 15, 0, 9, 0, 0, 1, 0, 11, 0, 7, 0, 6, 0, 12, 0, 14,
+    0, 2, 0, 9, 0, 3, 1, 14, 0, 12, 0, 9, 0, 1, 0, 7, 0, 17, 1, 8, 0, 9, 1, 12, 1, 9, 0, 16, 0, 8,
+    0, 9, 0, 10, 0, 9, 0, 7, 0, 12, 0, 14, 1, 2, 0, 8, 0, 15, 0, 15, 0, 9, 0, 14, 1, 0, 0, 16, 1,
+    9, 0, 0, 0, 6, 15, 3, 3, 1, 0, 16, 0, 10, 0, 5, 0, 7, 0, 12,
+];
+
+fn climbed(bins: usize) -> Vec<u32> {
+    CLIMBED[..bins].to_vec()
 }
 
 fn random(bins: usize) -> Vec<u32> {

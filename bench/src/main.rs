@@ -5,12 +5,11 @@
 //!     cargo run --release
 //!
 //! KISTROVU_LIB names another folder to take `libkistrovu.a` from; `--only cards` times only cards, and `--once N` makes the
-//! card of cloth N (from 1) once each way and times nothing, for a program that counts instructions; `--climb` looks for a
-//! line that takes long, for about SECONDS, from a SEED. Both are first compared
-//! with the reference; a wrong answer is not timed and ends the run. Where the reference would take too long for a line,
-//! shorter lines of the same kind are compared with it, and at full length the engine is compared with the Rust program.
-//! The two take turns in short rounds, and the figures are medians over the rounds: times of different runs do not compare
-//! well, ratios within one run do.
+//! card of cloth N (from 1) once each way and times nothing, for a program that counts instructions. `--climb` looks for a
+//! line that takes long (`climb.rs`). Both programs are first compared with the reference; a wrong answer is not timed and
+//! ends the run. Where the reference would take too long for a line, shorter lines of the same kind are compared with it,
+//! and at full length the engine is compared with the Rust program. The two take turns in short rounds, and the figures are
+//! medians over the rounds: times of different runs do not compare well, ratios within one run do.
 
 mod cards;
 mod cases;
