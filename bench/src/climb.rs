@@ -20,20 +20,25 @@ const ROUNDS: u64 = STARTS.ilog2() as u64 + 1;
 const MOST_COUNTS: u64 = MOST_PIXELS as u64;
 const NUMBERS_IN_A_ROW: usize = 16;
 
-/// The work of a search, in roughly the instructions of an engine that knows the bound in whole numbers and takes four
-/// logarithms where it leaves a doubt.
+/// Rough guesses at the instructions of an engine that has the bounds in whole numbers, and takes four logarithms where
+/// they leave a doubt. They only weigh the three against each other.
+const WORK_OF_A_BIN: u64 = 15;
+const WORK_OF_A_PART: u64 = 20;
+const WORK_OF_A_DOUBT: u64 = 700;
+
+/// The work of a search.
 #[derive(Default)]
 struct Work(u64);
 
 impl Tally for Work {
     fn bins(&mut self, bins: usize) {
-        self.0 += 15 * bins as u64;
+        self.0 += WORK_OF_A_BIN * bins as u64;
     }
     fn part(&mut self) {
-        self.0 += 20;
+        self.0 += WORK_OF_A_PART;
     }
     fn past_bound(&mut self) {
-        self.0 += 700;
+        self.0 += WORK_OF_A_DOUBT;
     }
 }
 
