@@ -1,9 +1,10 @@
-//! A search for lines that take long: hill climbs from the lines of the bench and from random ones, half of which are
-//! given up after each round. A line is judged by the work that its search for modes takes, not by time, so that the
-//! same seed finds the same line on every machine.
+//! A search for lines that take the engine long: hill climbs from the lines of the bench and from random ones, half of
+//! which are given up after each round. A line is judged by the work that the engine's search for modes takes, counted
+//! in a search of the same order, not by time: so the same seed finds the same line on every machine.
 
 use crate::cases;
-use crate::fast::{tallied_line_modes, Tally};
+use crate::fast::{line_modes_by, pool, total, Block, NO_BLOCK};
+use crate::fast_weight::{bar, Largest, Part};
 use crate::{engine_separators, fast_separators, print_heading, time_line, CLOSENESS};
 use cloths::random::Random;
 use reference::calls::{MOST_BINS, MOST_PIXELS};
@@ -20,26 +21,83 @@ const ROUNDS: u64 = STARTS.ilog2() as u64 + 1;
 const MOST_COUNTS: u64 = MOST_PIXELS as u64;
 const NUMBERS_IN_A_ROW: usize = 16;
 
-/// Rough guesses at the instructions of an engine that has the bounds in whole numbers, and takes four logarithms where
-/// they leave a doubt. They only weigh the three against each other.
-const WORK_OF_A_BIN: u64 = 15;
-const WORK_OF_A_PART: u64 = 20;
-const WORK_OF_A_DOUBT: u64 = 700;
+/// About what the engine takes in instructions for a bin that is pooled, for a part that is passed over, and for one that
+/// is weighed. They only weigh the three against each other.
+const WORK_OF_A_BIN: u64 = 20;
+const WORK_OF_A_PART: u64 = 27;
+const WORK_OF_A_WEIGHT: u64 = 700;
 
-/// The work of a search.
-#[derive(Default)]
-struct Work(u64);
+/// A stretch and its fit, as the engine keeps them: the counts before each bin, and each bin's block.
+struct Fitted {
+    before: Vec<u64>,
+    blocks: Vec<Block>,
+}
 
-impl Tally for Work {
-    fn bins(&mut self, bins: usize) {
-        self.0 += WORK_OF_A_BIN * bins as u64;
+impl Fitted {
+    fn new(stretch: &[u32], rising: bool) -> Fitted {
+        let mut before = vec![0];
+        for &bin in stretch {
+            before.push(before[before.len() - 1] + u64::from(bin));
+        }
+        let mut stack = [NO_BLOCK; MOST_BINS];
+        let places = pool(stretch, rising, &mut stack).iter();
+        let blocks = places
+            .flat_map(|&block| block.bins().map(move |_| block))
+            .collect();
+        Fitted { before, blocks }
     }
-    fn part(&mut self) {
-        self.0 += WORK_OF_A_PART;
+
+    fn part(&self, first: usize, last: usize) -> Part {
+        let (p, q) = (self.blocks[first], self.blocks[last]);
+        let count = self.before[last + 1] - self.before[first];
+        if p.first == q.first {
+            let mass = (last + 1 - first) as u64 * u64::from(q.sum);
+            return Part {
+                count,
+                mass,
+                over: u64::from(q.len),
+            };
+        }
+        let (len, last_len) = (u64::from(p.len), u64::from(q.len));
+        let tail = (p.bins().end - first) as u64 * u64::from(p.sum);
+        let between = self.before[q.bins().start] - self.before[p.bins().end];
+        let head = (last + 1 - q.bins().start) as u64 * u64::from(q.sum);
+        let mass = tail * last_len + between * len * last_len + head * len;
+        Part {
+            count,
+            mass,
+            over: len * last_len,
+        }
     }
-    fn past_bound(&mut self) {
-        self.0 += WORK_OF_A_DOUBT;
+}
+
+/// A capped cost, found in the engine's order: the parts that end at each bin in turn, first those within blocks, then
+/// those across.
+fn cost(stretch: &[u32], rising: bool, cap: i64, work: &mut u64) -> i64 {
+    let bar = bar(stretch.len(), CLOSENESS);
+    let mut largest = Largest::new(total(stretch));
+    if largest.weight >= cap + bar {
+        return -bar;
     }
+    *work += WORK_OF_A_BIN * stretch.len() as u64;
+    let fitted = Fitted::new(stretch, rising);
+    for within in [true, false] {
+        for last in 0..stretch.len() {
+            let start = fitted.blocks[last].bins().start;
+            for first in if within { start..last + 1 } else { 0..start } {
+                let part = fitted.part(first, last);
+                *work += WORK_OF_A_PART;
+                if !largest.covers(part) {
+                    *work += WORK_OF_A_WEIGHT;
+                    largest.raise(largest.weigh(part));
+                    if largest.weight >= cap + bar {
+                        return largest.weight - bar;
+                    }
+                }
+            }
+        }
+    }
+    largest.weight - bar
 }
 
 struct Climber {
@@ -49,9 +107,10 @@ struct Climber {
 
 impl Climber {
     fn new(line: Vec<u32>) -> Climber {
-        let mut work = Work::default();
-        tallied_line_modes(&line, CLOSENESS, &mut [0; MOST_BINS], &mut work);
-        let work = work.0;
+        let mut work = 0;
+        line_modes_by(&line, &mut [0; MOST_BINS], |stretch, rising, cap| {
+            cost(stretch, rising, cap, &mut work)
+        });
         Climber { line, work }
     }
 

@@ -7,26 +7,26 @@ use std::convert::Infallible;
 use std::ops::{ControlFlow, Range, RangeInclusive};
 
 #[derive(Clone, Copy)]
-struct Block {
-    first: u32,
-    len: u32,
-    sum: u32,
+pub struct Block {
+    pub first: u32,
+    pub len: u32,
+    pub sum: u32,
 }
 
-const NO_BLOCK: Block = Block {
+pub const NO_BLOCK: Block = Block {
     first: 0,
     len: 0,
     sum: 0,
 };
 
 impl Block {
-    fn bins(&self) -> Range<usize> {
+    pub fn bins(&self) -> Range<usize> {
         self.first as usize..(self.first + self.len) as usize
     }
 }
 
 /// The blocks of a fit, from left to right: adjacent violators pooled on a stack.
-fn pool<'a>(histogram: &[u32], rising: bool, stack: &'a mut [Block; MOST_BINS]) -> &'a [Block] {
+pub fn pool<'a>(histogram: &[u32], rising: bool, stack: &'a mut [Block; MOST_BINS]) -> &'a [Block] {
     let mut count = 0;
     for (first, &bin) in histogram.iter().enumerate() {
         let mut last = Block {
@@ -73,20 +73,21 @@ pub fn fit(histogram: &[u32], rising: bool) -> ([u32; MOST_BINS], [u32; MOST_BIN
 }
 
 pub fn verdict(histogram: &[u32], rising: bool, closeness: i32) -> (i64, bool) {
-    let largest = largest_weight(histogram, rising, &mut ());
+    let largest = largest_weight(histogram, rising, |_| ());
     let cost = largest - bar(histogram.len(), closeness);
     (cost, cost >= 0 && has_step_against(histogram, rising))
 }
 
+/// `seen` is told of each part whether it is weighed.
 #[inline(always)]
-fn largest_weight(histogram: &[u32], rising: bool, tally: &mut impl Tally) -> i64 {
+fn largest_weight(histogram: &[u32], rising: bool, mut seen: impl FnMut(bool)) -> i64 {
     let mut stack = [NO_BLOCK; MOST_BINS];
     let mut largest = Largest::new(total(histogram));
     let blocks = pool(histogram, rising, &mut stack);
     let mut visit = |part| {
-        tally.part();
-        if !largest.covers(part) && !largest.covers_closely(part) {
-            tally.logarithms();
+        let weighed = !largest.covers(part) && !largest.covers_closely(part);
+        seen(weighed);
+        if weighed {
             largest.raise(largest.weigh(part));
         }
         ControlFlow::<Infallible>::Continue(())
@@ -120,25 +121,20 @@ fn capped_cost(
     closeness: i32,
     cap: i64,
     stack: &mut [Block; MOST_BINS],
-    tally: &mut impl Tally,
 ) -> i64 {
     let bar = bar(histogram.len(), closeness);
     let enough = cap + bar;
     let mut largest = Largest::new(total(histogram));
     if largest.weight < enough {
-        tally.bins(histogram.len());
         let _ = search(histogram, pool(histogram, rising, stack), |part| {
-            tally.part();
             if largest.covers(part) {
                 return ControlFlow::Continue(());
             }
-            tally.past_bound();
             if largest.reaches(part, enough) {
                 largest.weight = enough;
                 return ControlFlow::Break(());
             }
             if !largest.covers_closely(part) {
-                tally.logarithms();
                 largest.raise(largest.weigh(part));
                 if largest.weight >= enough {
                     return ControlFlow::Break(());
@@ -171,41 +167,18 @@ fn search(
     ControlFlow::Continue(())
 }
 
-fn total(histogram: &[u32]) -> u64 {
+pub fn total(histogram: &[u32]) -> u64 {
     histogram.iter().map(|&bin| u64::from(bin)).sum()
 }
 
-/// Told of the work that is done, if anyone wants to know; `()` does not, and costs nothing.
-pub trait Tally {
-    /// So many bins are pooled.
-    fn bins(&mut self, _bins: usize) {}
-    fn part(&mut self) {}
-    /// The part before is not covered by the bound in whole numbers.
-    fn past_bound(&mut self) {}
-    /// The part before is weighed.
-    fn logarithms(&mut self) {}
-}
-
-impl Tally for () {}
-
 /// How many parts there are, and how many of them need no logarithm.
 pub fn spared(histogram: &[u32], rising: bool) -> (usize, usize) {
-    #[derive(Default)]
-    struct Parts {
-        all: usize,
-        weighed: usize,
-    }
-    impl Tally for Parts {
-        fn part(&mut self) {
-            self.all += 1;
-        }
-        fn logarithms(&mut self) {
-            self.weighed += 1;
-        }
-    }
-    let mut parts = Parts::default();
-    largest_weight(histogram, rising, &mut parts);
-    (parts.all, parts.all - parts.weighed)
+    let (mut parts, mut weighed) = (0, 0);
+    largest_weight(histogram, rising, |is_weighed| {
+        parts += 1;
+        weighed += usize::from(is_weighed);
+    });
+    (parts, parts - weighed)
 }
 
 /// The parts from a bin of the block to a bin of the same block, until a visit stops them.
@@ -272,21 +245,20 @@ struct Join {
 
 /// How many separators there are; they are the first places of the list, which has one for each bin or more.
 pub fn line_modes(histogram: &[u32], closeness: i32, list: &mut [u32]) -> usize {
-    tallied_line_modes(histogram, closeness, list, &mut ())
+    let mut stack = [NO_BLOCK; MOST_BINS];
+    line_modes_by(histogram, list, |stretch, rising, cap| {
+        capped_cost(stretch, rising, closeness, cap, &mut stack)
+    })
 }
 
-pub fn tallied_line_modes(
+/// The same with another way to find the capped cost of a stretch, rising or not.
+pub fn line_modes_by(
     histogram: &[u32],
-    closeness: i32,
     list: &mut [u32],
-    tally: &mut impl Tally,
+    mut cost: impl FnMut(&[u32], bool, i64) -> i64,
 ) -> usize {
     let mut segments = first_segments(histogram);
-    let mut stack = [NO_BLOCK; MOST_BINS];
-    let mut cost = |bins: RangeInclusive<usize>, rising, cap| {
-        let stretch = &histogram[bins];
-        capped_cost(stretch, rising, closeness, cap, &mut stack, tally)
-    };
+    let mut cost = |bins: RangeInclusive<usize>, rising, cap| cost(&histogram[bins], rising, cap);
     while let Some(join) = segments.next_join(&mut cost) {
         segments.join(&join);
     }
