@@ -8,7 +8,7 @@ use lib.ListN.{length}
 use Rattle.lists.specs.Lists.{over}
 use Rattle.verdict.specs.Test.{Closeness}
 use Rattle.verdict.specs.Settings.{Offered}
-use Rattle.verdict.specs.Scratch.{Small}
+use Rattle.pooling.specs.Limits.{Small}
 use Rattle.segmentation.specs.Joining.{lineSeparators}
 use Rattle.segmentation.specs.Ring.{ringSeparators}
 use Rattle.segmentation.specs.Finished.{LineFinished, RingFinished}

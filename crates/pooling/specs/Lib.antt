@@ -1,3 +1,4 @@
+pub mod Limits
 pub mod Blocks
 pub mod Fraction
 pub mod Best

@@ -6,10 +6,10 @@ ghost use lib.ListN.{length, take, replicate};
 ghost use Rattle.lists.specs.Lists.{total, over};
 ghost use Rattle.pooling.specs.Blocks.{Block, Place, direction, stepsTo, pushAll, places};
 ghost use Rattle.pooling.specs.Blocks as Blocks;
+ghost use Rattle.pooling.specs.Limits.{mostBins, mostCounts, Small};
 ghost use Rattle.pooling.specs.Stack.{stackOf, sumIn, binsIn};
 
-// A ring of 256 bins is opened at its lowest bin, which is repeated at the end: 257 bins. The lowest of two or more bins holds at
-// most half of a sum of 65,536, so the sum with the repeated bin is at most 98,304.
+// The most bins of a stretch: those of the largest ring, opened at its lowest bin, which is then at both ends.
 pub const MOST_BINS: usize = 257;
 
 // A block of neighbouring bins. Its sum and length stand for its mean, sum / len.
@@ -26,7 +26,7 @@ pub struct Place {
 
 // Whether the step from mean s/l to mean t/m is strictly in the direction of the fit.
 fn steps_to(rising: bool, s: u32, l: u32, t: u32, m: u32) -> bool
-    requires { ⌜ (s ≤ 98304) × (l ≤ 257) × (t ≤ 98304) × (m ≤ 257) ⌝ }
+    requires { ⌜ (s ≤ mostCounts) × (l ≤ mostBins) × (t ≤ mostCounts) × (m ≤ mostBins) ⌝ }
     ensures { λ r. ⌜ r ≡ stepsTo (direction rising) (record { sum = s; len = l }) (record { sum = t; len = m }) ⌝ }
 {
     if rising { s * m < t * l } else { t * l < s * m }
@@ -36,8 +36,8 @@ fn steps_to(rising: bool, s: u32, l: u32, t: u32, m: u32) -> bool
 fn push(sums: &mut [u32], lens: &mut [u32], n: usize, rising: bool, x: u32) -> usize
     requires { ⌜ (n < length (now sums))
         × (n < length (now lens))
-        × (sumIn (stackOf (now sums) (now lens) n) + x ≤ 98304)
-        × (binsIn (stackOf (now sums) (now lens) n) < 257) ⌝ }
+        × (sumIn (stackOf (now sums) (now lens) n) + x ≤ mostCounts)
+        × (binsIn (stackOf (now sums) (now lens) n) < mostBins) ⌝ }
     ensures { λ r. ⌜ stackOf (now (sums .exit)) (now (lens .exit)) r
         ≡ Blocks.push (direction rising) (record { sum = x; len = 1 }) (stackOf (now (sums .entry)) (now (lens .entry)) n) ⌝ }
 {
@@ -62,7 +62,8 @@ fn push(sums: &mut [u32], lens: &mut [u32], n: usize, rising: bool, x: u32) -> u
 
 // Makes the stack of the blocks of all bins. Returns how many blocks there are.
 fn pool(h: &[u32], rising: bool, sums: &mut [u32], lens: &mut [u32]) -> usize
-    requires { ⌜ (length (now h) ≤ 257) × (total (now h) ≤ 98304) × (length (now h) ≤ length (now sums)) × (length (now h) ≤ length (now lens)) ⌝ }
+    requires { ⌜ Small (now h) ⌝ }
+    requires { ⌜ (length (now h) ≤ length (now sums)) × (length (now h) ≤ length (now lens)) ⌝ }
     ensures { λ r. ⌜ stackOf (now (sums .exit)) (now (lens .exit)) r ≡ pushAll (direction rising) (now (h .entry)) [] ⌝ }
 {
     let mut n = 0;
@@ -88,11 +89,8 @@ fn fill(a: &mut [u32], from: usize, to: usize, v: u32)
 
 // Writes each bin's place: the first bin, the sum and the length of its block.
 pub fn fit_places(h: &[u32], rising: bool, starts: &mut [u32], sums: &mut [u32], lens: &mut [u32])
-    requires { ⌜ (length (now h) ≤ 257)
-        × (total (now h) ≤ 98304)
-        × (length (now h) ≤ length (now starts))
-        × (length (now h) ≤ length (now sums))
-        × (length (now h) ≤ length (now lens)) ⌝ }
+    requires { ⌜ Small (now h) ⌝ }
+    requires { ⌜ (length (now h) ≤ length (now starts)) × (length (now h) ≤ length (now sums)) × (length (now h) ≤ length (now lens)) ⌝ }
     ensures starts { λ _. ⌜ now (starts .exit) ≡ over (map (λ (p : Place). p .start) (places (direction rising) (now (h .entry)))) (now (starts .entry)) ⌝ }
     ensures sums { λ _. ⌜ now (sums .exit) ≡ over (map (λ (p : Place). p .block .sum) (places (direction rising) (now (h .entry)))) (now (sums .entry)) ⌝ }
     ensures lens { λ _. ⌜ now (lens .exit) ≡ over (map (λ (p : Place). p .block .len) (places (direction rising) (now (h .entry)))) (now (lens .entry)) ⌝ }

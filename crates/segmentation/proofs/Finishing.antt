@@ -13,6 +13,7 @@ use Rattle.lists.specs.Lists.{total, part}
 use Rattle.lists.proofs.Cases.{by-order}
 use Rattle.lists.proofs.Sums.{total-part-le}
 use Rattle.pooling.specs.Blocks.{Direction}
+use Rattle.pooling.specs.Limits.{mostBins, mostCounts}
 use Rattle.verdict.specs.Test.{Closeness}
 use Rattle.verdict.specs.Exactness.{VerdictSound}
 use Rattle.verdict.proofs.Sound.{verdict-sound}
@@ -30,7 +31,7 @@ pub part-length : (i j : ℕ) (h : List ℕ) → i ≤ j → j < length h → le
 unfolding part
 part-length i j h a b = length-take-le (suc j - i) (drop i h) (omega (arith, length-drop i h))
 
-part-sound : (e : Closeness) (w : Direction) (h : List ℕ) → length h ≤ 257 → total h ≤ 98304
+part-sound : (e : Closeness) (w : Direction) (h : List ℕ) → length h ≤ mostBins → total h ≤ mostCounts
     → (i j : ℕ) → i ≤ j → j < length h → VerdictSound e w (part i j h)
 part-sound e w h bins counts i j a b =
     verdict-sound e w (part i j h) (omega (arith, part-length i j h a b)) (omega (arith, total-part-le i j h (omega arith)))

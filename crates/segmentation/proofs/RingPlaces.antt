@@ -14,7 +14,7 @@ use Rattle.lists.proofs.Cases.{by-order}
 use Rattle.lists.proofs.Lowest.{lowest-in, lowest-le, lowest-first}
 use Rattle.lists.proofs.Rotations.{mod-below, mod-above, opened-length, opened-at, opened-total}
 use Rattle.lists.proofs.Buffers.{over-take}
-use Rattle.verdict.specs.Scratch.{Small}
+use Rattle.pooling.specs.Limits.{Small}
 use Rattle.segmentation.specs.Segments.{binAt}
 use Rattle.segmentation.specs.Ring.{opening, opened, ringBin, linePlace}
 

@@ -16,7 +16,8 @@ use Rattle.lists.proofs.Sums.{total-part-le}
 use Rattle.lists.proofs.Leasts.{leastOf, foundAmong, found-lowest}
 use Rattle.pooling.specs.Blocks.{increasing, decreasing}
 use Rattle.verdict.specs.Test.{Closeness, cost}
-use Rattle.verdict.specs.Scratch.{Small, Capped}
+use Rattle.pooling.specs.Limits.{Small}
+use Rattle.verdict.specs.Scratch.{Capped}
 use Rattle.segmentation.specs.declared.Found.{Found}
 use Rattle.segmentation.specs.Joining.{Join, Reader, lineReader, riseOf, fallOf, riseCost, fallCost, joinOf, cheapest, nextJoin}
 use Rattle.segmentation.specs.Segments.{Segment}

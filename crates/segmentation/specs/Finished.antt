@@ -10,6 +10,7 @@ use lib.IntN.{pos}
 use lib.Signed.{_≤ℤ_}
 use Rattle.lists.specs.Lists.{total, countIf, ExactlyOne}
 use Rattle.pooling.specs.Blocks.{Direction, increasing, decreasing}
+use Rattle.pooling.specs.Limits.{mostBins, mostCounts}
 use Rattle.verdict.specs.Test.{Closeness, rejected}
 use Rattle.verdict.specs.Exactness.{VerdictSound}
 use Rattle.segmentation.specs.Segments.{Segment, segmentAt, binAt, inMode}
@@ -67,7 +68,7 @@ pub record ListsOnce (e : Closeness) (h : List ℕ) (list : List ℕ) : Type 0 w
 
 -- proved in proofs/Always. The bounds are those of a line call and of the opened line of a ring call
 abbrev pub AlwaysFinished : Type 0
-AlwaysFinished = (e : Closeness) (h : List ℕ) → 2 ≤ length h → length h ≤ 257 → total h ≤ 98304 → LineFinished e h
+AlwaysFinished = (e : Closeness) (h : List ℕ) → 2 ≤ length h → length h ≤ mostBins → total h ≤ mostCounts → LineFinished e h
 
 -- proved in proofs/Always
 abbrev pub RingAlwaysFinished : Type 0

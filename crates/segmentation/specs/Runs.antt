@@ -9,7 +9,7 @@ use lib.IntN.{ℤ, pos}
 use lib.Signed.{ltZ, mag, _≤ℤ_}
 use Rattle.logarithm.specs.Sheet.{logSheet}
 use Rattle.verdict.specs.Settings.{lastSetting}
-use Rattle.verdict.specs.Scratch.{Small}
+use Rattle.pooling.specs.Limits.{Small}
 use Rattle.segmentation.specs.declared.Found.{Found}
 use Rattle.segmentation.specs.Joining.{Join}
 use Rattle.segmentation.specs.Finished.{Cut}

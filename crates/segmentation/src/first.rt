@@ -3,6 +3,7 @@ ghost use mathlib.Core.Path.{_≡_};
 ghost use mathlib.Core.List.{_++_};
 ghost use Prim.Native.Nat.{_+_, _-_, _^_, _≤_, _<_};
 ghost use lib.ListN.{length, take};
+ghost use Rattle.pooling.specs.Limits.{mostBins};
 ghost use Rattle.segmentation.specs.Segments.{firstSeparators, firstHighest, firstSegments};
 ghost use Rattle.segmentation.specs.Held.{segmentsHeld};
 ghost use Rattle.segmentation.specs.Walk.{fellAfter, pending, InLine, PeaksHeld};
@@ -35,7 +36,7 @@ fn put_valley(separators: &mut [u32], n: usize, fell: usize, rises: bool) -> usi
 
 // Writes the first separators. Returns how many there are before the last one.
 fn first_separators(h: &[u32], separators: &mut [u32]) -> usize
-    requires { ⌜ (2 ≤ length (now h)) × (length (now h) ≤ 257) × (length (now h) ≤ length (now separators)) ⌝ }
+    requires { ⌜ (2 ≤ length (now h)) × (length (now h) ≤ mostBins) × (length (now h) ≤ length (now separators)) ⌝ }
     ensures { λ r. ⌜ (r < length (now (h .entry))) × (take (r + 1) (now (separators .exit)) ≡ firstSeparators (now (h .entry))) ⌝ }
 {
     let mut n: usize = 1;
@@ -71,7 +72,7 @@ fn first_highest(h: &[u32], start: usize, end: usize) -> usize
 
 // Writes the peaks of the n segments between the first separators.
 fn first_peaks(h: &[u32], separators: &[u32], peaks: &mut [u32], n: usize)
-    requires { ⌜ (length (now h) ≤ 257) × (n < length (now separators)) × (n ≤ length (now peaks)) ⌝ }
+    requires { ⌜ (length (now h) ≤ mostBins) × (n < length (now separators)) × (n ≤ length (now peaks)) ⌝ }
     requires { ⌜ InLine (now h) (now separators) n ⌝ }
     ensures { λ _. ⌜ PeaksHeld (now (h .entry)) (now (separators .entry)) (now (peaks .exit)) n ⌝ }
 {
@@ -86,7 +87,7 @@ fn first_peaks(h: &[u32], separators: &[u32], peaks: &mut [u32], n: usize)
 
 // Writes the first segments of a line. Returns how many there are.
 pub fn first_segments(h: &[u32], separators: &mut [u32], peaks: &mut [u32]) -> usize
-    requires { ⌜ (2 ≤ length (now h)) × (length (now h) ≤ 257) × (length (now h) ≤ length (now separators)) × (length (now h) ≤ length (now peaks)) ⌝ }
+    requires { ⌜ (2 ≤ length (now h)) × (length (now h) ≤ mostBins) × (length (now h) ≤ length (now separators)) × (length (now h) ≤ length (now peaks)) ⌝ }
     ensures { λ r. ⌜ segmentsHeld (now (separators .exit)) (now (peaks .exit)) 0 r ≡ firstSegments (now (h .entry)) ⌝ }
 {
     let n = first_separators(h, separators);

@@ -10,7 +10,7 @@ ghost use lib.ListN.{length, drop};
 ghost use lib.Seq.{paste};
 ghost use Rattle.logarithm.specs.Sheet.{logSheet};
 ghost use Rattle.verdict.specs.Settings.{lastSetting, closenessOf};
-ghost use Rattle.verdict.specs.Scratch.{Small};
+ghost use Rattle.pooling.specs.Limits.{Small};
 ghost use Rattle.segmentation.specs.Joining.{lineReader, join, joinAll, lineModes};
 ghost use Rattle.segmentation.specs.Held.{segmentsHeld};
 ghost use Rattle.segmentation.specs.Finished.{Cut};

@@ -8,7 +8,7 @@ ghost use Prim.Native.Nat.{_≤_};
 ghost use lib.ListN.{length, take};
 ghost use Rattle.lists.specs.Lists.{total, over};
 ghost use Rattle.verdict.specs.Settings.{lastSetting, closenessOf};
-ghost use Rattle.verdict.specs.Scratch.{Small};
+ghost use Rattle.pooling.specs.Limits.{Small};
 ghost use Rattle.segmentation.specs.Joining.{lineSeparators};
 ghost use Rattle.segmentation.specs.Ring.{ringSeparators};
 

@@ -21,6 +21,7 @@ use Rattle.logarithm.specs.Log.{unitsPerBit, lg}
 use Rattle.logarithm.specs.Bounds.{Bounded}
 use Rattle.logarithm.proofs.Within.{always-bounded}
 use Rattle.pooling.specs.Blocks.{Direction, blocks}
+use Rattle.pooling.specs.Limits.{mostBins}
 use Rattle.verdict.specs.declared.Mass.{Mass}
 use Rattle.verdict.specs.Test.{Closeness, fittedMass, weight, partWeight, bar, largestWeight, cost, stepAgainst, rejected}
 use Rattle.verdict.specs.Exactness.{observed, expected, powerAbove, powerBelow, exactBar, LogsDefined, partX, partBar, ByMissingStep, Exact}
@@ -94,7 +95,7 @@ weight-reaches e l n k m =
     ap (λ (z : ℤ). leZ z (weight n k m)) (bar-split e l) ∙ differences-reach (raisedLog e l) (down e * unitsPerBit) (observedLog n k m) (expectedLog n k m)
 
 -- ---- the exact bar; l bins have l(l+1)/2 parts, within the logarithm's range
-module _ (e : Closeness) (l : ℕ) (least : 1 ≤ l) (most : l ≤ 257) where
+module _ (e : Closeness) (l : ℕ) (least : 1 ≤ l) (most : l ≤ mostBins) where
   parts-bounded : Bounded (l * suc l / 2)
   parts-bounded = always-bounded (l * suc l / 2) (parts-range l least most)
 
@@ -158,7 +159,7 @@ band-below p m t n x y b h hx ly lb =
     moved = omega arith
 
 -- ---- one part: its weight reaches the bar, or does not
-module _ (e : Closeness) (l n k : ℕ) (m : Mass) (least : 1 ≤ l) (most : l ≤ 257) (r : LogsDefined n k m) where
+module _ (e : Closeness) (l n k : ℕ) (m : Mass) (least : 1 ≤ l) (most : l ≤ mostBins) (r : LogsDefined n k m) where
   weight-above : leZ (bar e l) (weight n k m) ≡ true
       → (exactBar e l * expected n k m) ^ unitsPerBit < (powerBelow e * observed n k m) ^ unitsPerBit * 2 ^ (2 * n + 2)
   weight-above q =
@@ -202,7 +203,7 @@ module _ (e : Closeness) (w : Direction) (h : List ℕ) where
       go false true s t z = absurd (n (record { along = none-monotone w h s; dear = record { le = rw t tt } }))
       go true true s t z = z
 
-pub exact : (e : Closeness) (w : Direction) (h : List ℕ) → 1 ≤ length h → length h ≤ 257
+pub exact : (e : Closeness) (w : Direction) (h : List ℕ) → 1 ≤ length h → length h ≤ mostBins
     → ((i j : ℕ) → i ≤ j → j < length h → LogsDefined (total h) (total (part i j h)) (fittedMass h (blocks w h) i j)) → Exact e w h
 unfolding partWeight partX partBar
 exact e w h least most ranges =

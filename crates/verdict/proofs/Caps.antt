@@ -16,12 +16,13 @@ use Rattle.lists.proofs.Signed.{le-trans-ℤ, lt-le-ℤ, nlt-le-ℤ, le-antisym
 use Rattle.pooling.specs.declared.Block.{Block}
 use Rattle.pooling.specs.declared.Place.{Place}
 use Rattle.pooling.specs.Blocks.{Direction, blocks}
+use Rattle.pooling.specs.Limits.{Small}
 use Rattle.pooling.proofs.Laws.{blocks-cut}
 use Rattle.verdict.specs.Test.{fittedMass, partWeight, largestWeight, bar, cost}
 use Rattle.verdict.specs.Settings.{lastSetting, closenessOf}
 use Rattle.verdict.specs.declared.Best.{Best}
 use Rattle.verdict.specs.Reach.{Spares, NearUpTo}
-use Rattle.verdict.specs.Scratch.{Small, PlacesHeld, Capped, Attained, BestOf, EndingAt, firstOf, endOf, Turn, Part}
+use Rattle.verdict.specs.Scratch.{PlacesHeld, Capped, Attained, BestOf, EndingAt, firstOf, endOf, Turn, Part}
 use Rattle.verdict.proofs.Range.{in-range}
 use Rattle.verdict.proofs.Largest.{largest-part, part-largest}
 use Rattle.verdict.proofs.Masses.{bin-place}

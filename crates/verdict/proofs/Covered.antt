@@ -14,6 +14,7 @@ use native.Mathlib.Nat.{mul-le-mul, le-div-iff-mul-le, le-trans, pow-le-pow-left
 use Rattle.logarithm.specs.Log.{Loggable, lg, unitsPerBit, roundCount}
 use Rattle.logarithm.proofs.Within.{always-bounded}
 use Rattle.pooling.specs.Blocks.{Direction}
+use Rattle.pooling.specs.Limits.{mostBins}
 use Rattle.verdict.specs.Test.{Closeness, bar, cost}
 use Rattle.verdict.specs.Exactness.{ByMissingStep}
 use Rattle.verdict.proofs.Terms.{parts-range}
@@ -32,7 +33,7 @@ lg-positive x h v = go (lg x) refl
     go (suc l) e = omega arith
 
 -- two bins have three parts
-parts-positive : (l : ℕ) → 2 ≤ l → l ≤ 257 → 0 < lg (l * suc l / 2)
+parts-positive : (l : ℕ) → 2 ≤ l → l ≤ mostBins → 0 < lg (l * suc l / 2)
 parts-positive l h k =
     let s : 3 ≤ suc l = omega arith in
     lg-positive (l * suc l / 2) (le-div-iff-mul-le (omega arith) .1 (omega (arith, mul-le-mul h s))) (parts-range l (omega arith) k)
@@ -41,7 +42,7 @@ negative : (n : ℕ) → 0 < n → leZ (pos 0) (negℤ (pos n)) ≡ false
 negative zero h = absurd (omega arith)
 negative (suc n) h = refl
 
-pub never-by-missing-step : (e : Closeness) (w : Direction) (h : List ℕ) → length h ≤ 257 → pos 0 ≤ℤ e → 2 ≤ length h → ¬ ByMissingStep e w h
+pub never-by-missing-step : (e : Closeness) (w : Direction) (h : List ℕ) → length h ≤ mostBins → pos 0 ≤ℤ e → 2 ≤ length h → ¬ ByMissingStep e w h
 unfolding bar
 never-by-missing-step (negsuc n) w h most up two b = absurd (up .le)
 never-by-missing-step (pos n) w h most up two b =

@@ -10,6 +10,7 @@ use Rattle.lists.proofs.Cases.{by-order}
 use Rattle.lists.proofs.Sums.{total-part-le}
 use Rattle.pooling.specs.declared.Block.{Block}
 use Rattle.pooling.specs.Blocks.{Direction, blocks}
+use Rattle.pooling.specs.Limits.{mostBins, mostCounts}
 use Rattle.pooling.specs.Best.{CutInto}
 use Rattle.pooling.proofs.Gap.{Splits}
 use Rattle.pooling.proofs.Cuts.{begins-fits}
@@ -32,16 +33,16 @@ four-product a b =
     over : (a d : ℕ) → 4 * (a * (a + d)) ≤ (a + (a + d)) * (a + (a + d))
     over a d = omega arith
 
-product-small : (n a b : ℕ) → n ≤ 98304 → a + b ≤ 257 → n * (a * b) < 2 ^ 32
+product-small : (n a b : ℕ) → n ≤ mostCounts → a + b ≤ mostBins → n * (a * b) < 2 ^ 32
 product-small n a b hn hl =
-    let s : 4 * (a * b) ≤ 257 * 257 = omega (arith, four-product a b, mul-le-mul hl hl) in
-    let t : n * (4 * (a * b)) ≤ 98304 * (257 * 257) = mul-le-mul hn s in
+    let s : 4 * (a * b) ≤ mostBins * mostBins = omega (arith, four-product a b, mul-le-mul hl hl) in
+    let t : n * (4 * (a * b)) ≤ mostCounts * (mostBins * mostBins) = mul-le-mul hn s in
     omega arith
 
-single-small : (n l : ℕ) → n ≤ 98304 → l ≤ 257 → n * l < 2 ^ 32
-single-small n l hn hl = let t : n * l ≤ 98304 * 257 = mul-le-mul hn hl in omega arith
+single-small : (n l : ℕ) → n ≤ mostCounts → l ≤ mostBins → n * l < 2 ^ 32
+single-small n l hn hl = let t : n * l ≤ mostCounts * mostBins = mul-le-mul hn hl in omega arith
 
-mass-small : {h : List ℕ} {bs : List Block} → CutInto h bs → length h ≤ 257 → (n : ℕ) → n ≤ 98304 → (i j : ℕ) → i ≤ j → j < length h → n * fittedMass h bs i j .den < 2 ^ 32
+mass-small : {h : List ℕ} {bs : List Block} → CutInto h bs → length h ≤ mostBins → (n : ℕ) → n ≤ mostCounts → (i j : ℕ) → i ≤ j → j < length h → n * fittedMass h bs i j .den < 2 ^ 32
 unfolding massWithin massAcross
 mass-small {bs = bs} k hl n hn i j o l =
     by-blocks k i j o l (λ (m : Mass). n * m .den < 2 ^ 32)
@@ -66,7 +67,7 @@ mass-rest D M A B K k N hD hB e g hk =
 mass-within : (D A B K N : ℕ) → 0 < D → A * D ≡ B * K → K ≤ D * N → A ≤ N * B
 mass-within D A B K N hD e g = le-of-mul-le-mul-right {k = D} (omega (arith, mul-le-mul-left B g)) hD
 
-range-over : {h : List ℕ} {bs : List Block} → CutInto h bs → (D : ℕ) → 0 < D → Splits D bs → length h ≤ 257 → total h ≤ 98304 → (i j : ℕ) → i ≤ j → j < length h
+range-over : {h : List ℕ} {bs : List Block} → CutInto h bs → (D : ℕ) → 0 < D → Splits D bs → length h ≤ mostBins → total h ≤ mostCounts → (i j : ℕ) → i ≤ j → j < length h
     → LogsDefined (total h) (total (part i j h)) (fittedMass h bs i j)
 range-over {h = h} k D hD w hl hn i j o l =
     let hB = mass-positive k i j o l in
@@ -80,6 +81,6 @@ range-over {h = h} k D hD w hl hn i j o l =
       someRest = mass-rest D (length h) _ _ _ _ (total h) hD hB e (rest-grows k D w i j o l);
     }
 
-pub in-range : (w : Direction) (h : List ℕ) → length h ≤ 257 → total h ≤ 98304 → (i j : ℕ) → i ≤ j → j < length h
+pub in-range : (w : Direction) (h : List ℕ) → length h ≤ mostBins → total h ≤ mostCounts → (i j : ℕ) → i ≤ j → j < length h
     → LogsDefined (total h) (total (part i j h)) (fittedMass h (blocks w h) i j)
 in-range w h = let s = blocks-split w h in range-over (blocks-cut w h) (s .0) (s .1) (s .2)

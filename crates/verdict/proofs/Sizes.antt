@@ -7,6 +7,7 @@ use lib.Signed.{mag}
 use Rattle.lists.proofs.Signed.{difference-below}
 use Rattle.logarithm.specs.Log.{Loggable, lg, unitsPerBit, roundCount}
 use Rattle.logarithm.proofs.Laws.{lg-below}
+use Rattle.pooling.specs.Limits.{mostBins, mostCounts}
 use Rattle.verdict.specs.declared.Mass.{Mass}
 use Rattle.verdict.specs.Test.{leastCloseness, mostCloseness, weight, bar}
 use Rattle.verdict.specs.Settings.{settingsBelow, lastSetting, closenessOf}
@@ -42,10 +43,10 @@ pub term-small : (n x : ℕ) → Loggable x → n * lg x ≤ n * 2 ^ 45
 term-small n x v = mul-le-mul-left n (lg-small x v)
 
 -- ---- the bar, and the larger of the two numbers that it is the difference of
-pub raised-small : (s l : ℕ) → s ≤ lastSetting → 1 ≤ l → l ≤ 257 → lg (l * suc l / 2) + s * unitsPerBit ≤ 2 ^ 46
+pub raised-small : (s l : ℕ) → s ≤ lastSetting → 1 ≤ l → l ≤ mostBins → lg (l * suc l / 2) + s * unitsPerBit ≤ 2 ^ 46
 raised-small s l a b c = omega (arith, lg-small (l * suc l / 2) (parts-range l b c), setting-units s (setting-small a))
 
-pub bar-small : (s l : ℕ) → s ≤ lastSetting → 1 ≤ l → l ≤ 257 → mag (bar (closenessOf s) l) < 2 ^ 47
+pub bar-small : (s l : ℕ) → s ≤ lastSetting → 1 ≤ l → l ≤ mostBins → mag (bar (closenessOf s) l) < 2 ^ 47
 bar-small s l a b c =
     rw (bar-setting s l)
     (difference-below (lg (l * suc l / 2) + s * unitsPerBit) (settingsBelow * unitsPerBit) (2 ^ 47) (omega (arith, raised-small s l a b c)) (omega (arith, below-units)))
@@ -56,7 +57,7 @@ term-ranged zero x r = rw (zero-mul, zero-mul) (le-refl 0)
 term-ranged (suc f) x r = term-small (suc f) x (loggable r (omega arith))
 
 -- with room for the bar
-pub weight-small : (n k : ℕ) (m : Mass) → LogsDefined n k m → n ≤ 98304 → mag (weight n k m) < 2 ^ 62 - 2 ^ 48
+pub weight-small : (n k : ℕ) (m : Mass) → LogsDefined n k m → n ≤ mostCounts → mag (weight n k m) < 2 ^ 62 - 2 ^ 48
 unfolding weight
 weight-small n k m r h =
     let a = term-ranged k (k * m .den) (counted n k m r k (r .partial)) in

@@ -7,6 +7,7 @@ use native.Mathlib.Omega.{arith}
 use lib.IntN.{pos, subℕ, +ℤ-invr}
 use Rattle.lists.proofs.Signed.{difference-is}
 use Rattle.logarithm.specs.Log.{Loggable, lg}
+use Rattle.pooling.specs.Limits.{mostBins}
 use Rattle.verdict.specs.declared.Mass.{Mass}
 use Rattle.verdict.specs.Test.{weight}
 use Rattle.verdict.specs.Exactness.{LogsDefined}
@@ -81,10 +82,10 @@ module _ (n k : ℕ) (m : Mass) (r : LogsDefined n k m) where
       )
 
 -- ---- the number of a stretch's parts
-pub parts-range : (l : ℕ) → 1 ≤ l → l ≤ 257 → Loggable (l * suc l / 2)
+pub parts-range : (l : ℕ) → 1 ≤ l → l ≤ mostBins → Loggable (l * suc l / 2)
 parts-range l h k =
-    let more : suc l ≤ 258 = omega arith in
+    let more : suc l ≤ suc mostBins = omega arith in
     let some : 2 ≤ suc l = omega arith in
-    let up : l * suc l ≤ 257 * 258 = mul-le-mul k more in
+    let up : l * suc l ≤ mostBins * suc mostBins = mul-le-mul k more in
     let low : 1 * 2 ≤ l * suc l = mul-le-mul h some in
     record { low = omega arith; high = omega arith }

@@ -9,6 +9,7 @@ use lib.Signed.{_≤ℤ_}
 use Rattle.lists.specs.Lists.{total, part}
 use Rattle.logarithm.specs.Log.{unitsPerBit}
 use Rattle.pooling.specs.Blocks.{Direction, increasing, decreasing, blocks}
+use Rattle.pooling.specs.Limits.{mostBins, mostCounts}
 use Rattle.pooling.specs.Fraction.{CommonDenominator, sumOf}
 use Rattle.pooling.specs.Best.{means, Pooled}
 use Rattle.verdict.specs.declared.Mass.{Mass}
@@ -100,7 +101,6 @@ module _ (e : Closeness) (w : Direction) (h : List ℕ) where
     -- T9: from closeness 0 up the bar of two bins or more is above 0, so the missing step never decides alone, and the band covers every verdict
     pub covered : pos 0 ≤ℤ e → 2 ≤ length h → ¬ ByMissingStep
 
--- proved in proofs/Sound. A ring of up to 256 bins and 65,536 counts with its lowest bin repeated has up to 257 bins and 98,304 counts (two equal bins become three);
--- then NB is at most 98,304 · 128 · 129, within the logarithm's range
+-- proved in proofs/Sound. Of up to 257 bins and 98,304 counts NB is at most 98,304 · 128 · 129, within the logarithm's range
 abbrev pub VerdictAlwaysSound : Type 0
-VerdictAlwaysSound = (e : Closeness) (w : Direction) (h : List ℕ) → length h ≤ 257 → total h ≤ 98304 → VerdictSound e w h
+VerdictAlwaysSound = (e : Closeness) (w : Direction) (h : List ℕ) → length h ≤ mostBins → total h ≤ mostCounts → VerdictSound e w h

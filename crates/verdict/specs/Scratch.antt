@@ -10,16 +10,12 @@ use Rattle.lists.specs.Lists.{total}
 use Rattle.pooling.specs.declared.Block.{Block}
 use Rattle.pooling.specs.declared.Place.{Place}
 use Rattle.pooling.specs.Blocks.{Direction, blocks}
+use Rattle.pooling.specs.Limits.{Small}
 use Rattle.verdict.specs.Test.{placeOf, partWeight}
 
 -- the list `before` holds the sum of the bins before each bin, and in the place after the last bin the sum of all
 abbrev pub RunningTotals : List ℕ → List ℕ → Type 0
 RunningTotals h before = (i : ℕ) → i ≤ length h → getD before i 0 ≡ total (take i h)
-
--- the largest stretch that is tested: a ring of 256 bins and 65,536 counts, opened, has up to 257 and 98,304
-pub record Small (h : List ℕ) : Type 0 where
-  pub bins : length h ≤ 257
-  pub counts : total h ≤ 98304
 
 -- the three lists hold each bin's place
 abbrev pub PlacesHeld : Direction → List ℕ → List ℕ → List ℕ → List ℕ → Type 0

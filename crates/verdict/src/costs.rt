@@ -1,4 +1,5 @@
 // The cost of a stretch, up to a cap.
+use crate::MOST_TOTALS;
 use crate::parts::running_totals;
 use crate::search::best_weight;
 use crate::search::is_below;
@@ -6,6 +7,7 @@ use crate::signed::less;
 use crate::signed::sum;
 use crate::weights::bar;
 use logarithm::SHEET_SIZE;
+use pooling::MOST_BINS;
 use pooling::fit_places;
 ghost use mathlib.Core.Path.{_≡_};
 ghost use Prim.Native.Nat.{_^_, _≤_, _<_};
@@ -13,9 +15,10 @@ ghost use lib.ListN.{length};
 ghost use lib.Signed.{mag};
 ghost use Rattle.logarithm.specs.Sheet.{logSheet};
 ghost use Rattle.pooling.specs.Blocks.{direction, blocks};
+ghost use Rattle.pooling.specs.Limits.{Small};
 ghost use Rattle.verdict.specs.Test.{cost};
 ghost use Rattle.verdict.specs.Settings.{lastSetting, closenessOf};
-ghost use Rattle.verdict.specs.Scratch.{Small, Capped, BestOf, Part};
+ghost use Rattle.verdict.specs.Scratch.{Capped, BestOf, Part};
 
 // A cap that no cost reaches: 2^62 - 1.
 const NO_CAP: i64 = 4611686018427387903;
@@ -29,10 +32,10 @@ fn best_of(sheet: &[u32; SHEET_SIZE], h: &[u32], rising: bool, limit: i64) -> i6
     if !is_below(0, limit) {
         return 0;
     }
-    let mut before = [0u32; 258];
-    let mut starts = [0u32; 257];
-    let mut sums = [0u32; 257];
-    let mut lens = [0u32; 257];
+    let mut before = [0u32; MOST_TOTALS];
+    let mut starts = [0u32; MOST_BINS];
+    let mut sums = [0u32; MOST_BINS];
+    let mut lens = [0u32; MOST_BINS];
     running_totals(h, &mut before);
     fit_places(h, rising, &mut starts, &mut sums, &mut lens);
     best_weight(sheet, h, rising, &before, &starts, &sums, &lens, limit)

@@ -1,14 +1,17 @@
 // The parts of a stretch: what is kept about the stretch while its parts are tested, and the fitted mass of a part.
+use crate::MOST_TOTALS;
 use crate::Mass;
 use pooling::Block;
+use pooling::MOST_BINS;
 use pooling::Place;
 ghost use mathlib.Core.Path.{_≡_};
-ghost use Prim.Native.Nat.{_≤_, _<_};
+ghost use Prim.Native.Nat.{suc, _≤_, _<_};
 ghost use lib.ListN.{length};
 ghost use Rattle.lists.specs.Lists.{total, part};
 ghost use Rattle.pooling.specs.Blocks.{direction, blocks};
+ghost use Rattle.pooling.specs.Limits.{mostBins, mostCounts, Small};
 ghost use Rattle.verdict.specs.Test.{placeOf, massWithin, massOfThree, massAcross, fittedMass};
-ghost use Rattle.verdict.specs.Scratch.{Small, RunningTotals, PlacesHeld, Across, Scratch, Turn};
+ghost use Rattle.verdict.specs.Scratch.{RunningTotals, PlacesHeld, Across, Scratch, Turn};
 
 pub fn wide(x: u32) -> u64
     ensures { λ r. ⌜ r ≡ x ⌝ }
@@ -17,9 +20,9 @@ pub fn wide(x: u32) -> u64
 }
 
 // The sum of the counts before each bin, and in the place after the last bin the sum of all.
-pub fn running_totals(h: &[u32], before: &mut [u32; 258])
+pub fn running_totals(h: &[u32], before: &mut [u32; MOST_TOTALS])
     requires { ⌜ Small (now h) ⌝ }
-    requires { ⌜ length (now before) ≡ 258 ⌝ }
+    requires { ⌜ length (now before) ≡ suc mostBins ⌝ }
     ensures { λ _. ⌜ RunningTotals (now (h .entry)) (now (before .exit)) ⌝ }
 {
     let mut sum: u32 = 0;
@@ -33,7 +36,7 @@ pub fn running_totals(h: &[u32], before: &mut [u32; 258])
 }
 
 // How many counts a stretch has.
-pub fn all_counts(h: &[u32], before: &[u32; 258]) -> u64
+pub fn all_counts(h: &[u32], before: &[u32; MOST_TOTALS]) -> u64
     requires { ⌜ Small (now h) ⌝ }
     requires { ⌜ RunningTotals (now h) (now before) ⌝ }
     ensures { λ r. ⌜ r ≡ total (now (h .entry)) ⌝ }
@@ -42,7 +45,7 @@ pub fn all_counts(h: &[u32], before: &[u32; 258]) -> u64
 }
 
 // How many counts the part from bin i to bin j has.
-pub fn part_counts(h: &[u32], before: &[u32; 258], i: usize, j: usize) -> u64
+pub fn part_counts(h: &[u32], before: &[u32; MOST_TOTALS], i: usize, j: usize) -> u64
     requires { ⌜ Small (now h) ⌝ }
     requires { ⌜ RunningTotals (now h) (now before) ⌝ }
     requires { ⌜ (i ≤ j) × (j < length (now h)) ⌝ }
@@ -55,13 +58,13 @@ pub fn part_counts(h: &[u32], before: &[u32; 258], i: usize, j: usize) -> u64
 fn place_at(
     h: &[u32],
     rising: bool,
-    starts: &[u32; 257],
-    sums: &[u32; 257],
-    lens: &[u32; 257],
+    starts: &[u32; MOST_BINS],
+    sums: &[u32; MOST_BINS],
+    lens: &[u32; MOST_BINS],
     i: usize,
 ) -> Place
     requires { ⌜ PlacesHeld (direction rising) (now h) (now starts) (now sums) (now lens) ⌝ }
-    requires { ⌜ (i < length (now h)) × (i < 257) ⌝ }
+    requires { ⌜ (i < length (now h)) × (i < mostBins) ⌝ }
     ensures { λ r. ⌜ r ≡ placeOf (blocks (direction rising) (now (h .entry))) i ⌝ }
 {
     Place {
@@ -75,7 +78,7 @@ fn place_at(
 
 // A part within one block: the bins of the part, each at the mean of the block.
 fn mass_within(p: Place, i: usize, j: usize) -> Mass
-    requires { ⌜ (i ≤ j) × (j < 257) × (p .block .sum ≤ 98304) ⌝ }
+    requires { ⌜ (i ≤ j) × (j < mostBins) × (p .block .sum ≤ mostCounts) ⌝ }
     ensures { λ r. ⌜ r ≡ massWithin p i j ⌝ }
 {
     Mass {
@@ -94,8 +97,8 @@ fn mass_of_three(
     last_sum: u64,
     last_len: u64,
 ) -> Mass
-    requires { ⌜ (tail ≤ 257) × (sum ≤ 98304) × (len ≤ 257) × (between ≤ 98304) ⌝ }
-    requires { ⌜ (head ≤ 257) × («last_sum» ≤ 98304) × («last_len» ≤ 257) ⌝ }
+    requires { ⌜ (tail ≤ mostBins) × (sum ≤ mostCounts) × (len ≤ mostBins) × (between ≤ mostCounts) ⌝ }
+    requires { ⌜ (head ≤ mostBins) × («last_sum» ≤ mostCounts) × («last_len» ≤ mostBins) ⌝ }
     ensures { λ r. ⌜ r ≡ massOfThree tail sum len between head «last_sum» «last_len» ⌝ }
 {
     let product = len * last_len;
@@ -106,7 +109,14 @@ fn mass_of_three(
 }
 
 // A part across blocks: the tail of the first block, the counts between, and the head of the last block.
-fn mass_across(h: &[u32], before: &[u32; 258], p: Place, q: Place, i: usize, j: usize) -> Mass
+fn mass_across(
+    h: &[u32],
+    before: &[u32; MOST_TOTALS],
+    p: Place,
+    q: Place,
+    i: usize,
+    j: usize,
+) -> Mass
     requires { ⌜ Small (now h) ⌝ }
     requires { ⌜ RunningTotals (now h) (now before) ⌝ }
     requires { ⌜ Across (now h) p q i j ⌝ }
@@ -132,10 +142,10 @@ fn mass_across(h: &[u32], before: &[u32; 258], p: Place, q: Place, i: usize, j: 
 pub fn part_mass(
     h: &[u32],
     rising: bool,
-    before: &[u32; 258],
-    starts: &[u32; 257],
-    sums: &[u32; 257],
-    lens: &[u32; 257],
+    before: &[u32; MOST_TOTALS],
+    starts: &[u32; MOST_BINS],
+    sums: &[u32; MOST_BINS],
+    lens: &[u32; MOST_BINS],
     within: bool,
     i: usize,
     j: usize,

@@ -7,6 +7,7 @@ ghost use mathlib.Core.Path.{_≡_};
 ghost use Prim.Native.Nat.{_+_, _-_, _≤_, _<_, _^_};
 ghost use lib.IntN.{pos};
 ghost use lib.Signed.{_≤ℤ_};
+ghost use Rattle.pooling.specs.Limits.{mostCounts};
 ghost use Rattle.verdict.specs.Exactness.{LogsDefined};
 ghost use Rattle.verdict.specs.Reach.{smallerOf, isSmall, isNear, Spares, Usable};
 
@@ -66,7 +67,7 @@ fn capped_factor(x: u64) -> u64
 
 // A best weight, with its threshold. Of the weight 2n is set aside for what the logarithms round off.
 pub fn best_at(n: u64, weight: i64) -> Best
-    requires { ⌜ (n ≤ 98304) × (pos 0 ≤ℤ weight) ⌝ }
+    requires { ⌜ (n ≤ mostCounts) × (pos 0 ≤ℤ weight) ⌝ }
     ensures { λ r. ⌜ (r .weight ≡ weight) × Spares n r ⌝ }
 {
     let exact = above(weight, 2 * n);

@@ -1,5 +1,6 @@
 // The search for the best weight of a stretch's parts, up to a limit: it stops at the first weight that reaches the limit, and weighs no part that is near its fitted mass.
 use crate::Best;
+use crate::MOST_TOTALS;
 use crate::Threshold;
 use crate::parts::all_counts;
 use crate::parts::part_counts;
@@ -9,6 +10,7 @@ use crate::reach::best_at;
 use crate::reach::is_near;
 use crate::weights::weight;
 use logarithm::SHEET_SIZE;
+use pooling::MOST_BINS;
 ghost use mathlib.Core.Path.{_≡_};
 ghost use mathlib.Core.Bool.{cond};
 ghost use Prim.Native.Nat.{_≤_, _<_};
@@ -17,6 +19,7 @@ ghost use lib.Signed.{ltZ, _≤ℤ_};
 ghost use Rattle.lists.specs.Lists.{total};
 ghost use Rattle.logarithm.specs.Sheet.{logSheet};
 ghost use Rattle.pooling.specs.Blocks.{direction, blocks};
+ghost use Rattle.pooling.specs.Limits.{mostBins, mostCounts};
 ghost use Rattle.verdict.specs.Reach.{Usable, Spares, Tried, NearUpTo};
 ghost use Rattle.verdict.specs.Scratch.{Scratch, Attained, BestOf, EndingAt, firstOf, endOf, Turn, Part};
 
@@ -34,7 +37,7 @@ pub fn is_below(x: i64, y: i64) -> bool
 
 // The better of the best weight so far and another.
 fn better(n: u64, best: Best, weight: i64) -> Best
-    requires { ⌜ n ≤ 98304 ⌝ }
+    requires { ⌜ n ≤ mostCounts ⌝ }
     requires { ⌜ Spares n best ⌝ }
     ensures { λ r. ⌜ (r .weight ≡ cond (ltZ (best .weight) weight) weight (best .weight)) × Spares n r ⌝ }
 {
@@ -49,10 +52,10 @@ fn tried(
     sheet: &[u32; SHEET_SIZE],
     h: &[u32],
     rising: bool,
-    before: &[u32; 258],
-    starts: &[u32; 257],
-    sums: &[u32; 257],
-    lens: &[u32; 257],
+    before: &[u32; MOST_TOTALS],
+    starts: &[u32; MOST_BINS],
+    sums: &[u32; MOST_BINS],
+    lens: &[u32; MOST_BINS],
     within: bool,
     i: usize,
     j: usize,
@@ -73,10 +76,10 @@ fn tried(
 fn first_far(
     h: &[u32],
     rising: bool,
-    before: &[u32; 258],
-    starts: &[u32; 257],
-    sums: &[u32; 257],
-    lens: &[u32; 257],
+    before: &[u32; MOST_TOTALS],
+    starts: &[u32; MOST_BINS],
+    sums: &[u32; MOST_BINS],
+    lens: &[u32; MOST_BINS],
     within: bool,
     j: usize,
     first: usize,
@@ -109,7 +112,7 @@ fn first_of(within: bool, start: usize) -> usize
 }
 
 fn end_of(within: bool, start: usize, j: usize) -> usize
-    requires { ⌜ j < 257 ⌝ }
+    requires { ⌜ j < mostBins ⌝ }
     ensures { λ r. ⌜ r ≡ endOf within start j ⌝ }
 {
     if within { j + 1 } else { start }
@@ -120,10 +123,10 @@ fn best_ending_at(
     sheet: &[u32; SHEET_SIZE],
     h: &[u32],
     rising: bool,
-    before: &[u32; 258],
-    starts: &[u32; 257],
-    sums: &[u32; 257],
-    lens: &[u32; 257],
+    before: &[u32; MOST_TOTALS],
+    starts: &[u32; MOST_BINS],
+    sums: &[u32; MOST_BINS],
+    lens: &[u32; MOST_BINS],
     within: bool,
     j: usize,
     best: Best,
@@ -182,10 +185,10 @@ fn best_in_turn(
     sheet: &[u32; SHEET_SIZE],
     h: &[u32],
     rising: bool,
-    before: &[u32; 258],
-    starts: &[u32; 257],
-    sums: &[u32; 257],
-    lens: &[u32; 257],
+    before: &[u32; MOST_TOTALS],
+    starts: &[u32; MOST_BINS],
+    sums: &[u32; MOST_BINS],
+    lens: &[u32; MOST_BINS],
     within: bool,
     best: Best,
     limit: i64,
@@ -225,10 +228,10 @@ pub fn best_weight(
     sheet: &[u32; SHEET_SIZE],
     h: &[u32],
     rising: bool,
-    before: &[u32; 258],
-    starts: &[u32; 257],
-    sums: &[u32; 257],
-    lens: &[u32; 257],
+    before: &[u32; MOST_TOTALS],
+    starts: &[u32; MOST_BINS],
+    sums: &[u32; MOST_BINS],
+    lens: &[u32; MOST_BINS],
     limit: i64,
 ) -> i64
     requires { ⌜ Scratch (direction rising) (now h) (now before) (now starts) (now sums) (now lens) ⌝ }

@@ -9,6 +9,7 @@ ghost use Prim.Native.Nat.{_+_, _*_, _≤_};
 ghost use lib.IntN.{subℕ};
 ghost use Rattle.logarithm.specs.Log.{Loggable, lg};
 ghost use Rattle.logarithm.specs.Sheet.{logSheet};
+ghost use Rattle.pooling.specs.Limits.{mostBins, mostCounts};
 ghost use Rattle.verdict.specs.Test.{weight, bar};
 ghost use Rattle.verdict.specs.Settings.{lastSetting, closenessOf};
 ghost use Rattle.verdict.specs.Exactness.{LogsDefined};
@@ -18,7 +19,7 @@ const SETTINGS_BELOW: u64 = (0 - LEAST_CLOSENESS) as u64;
 
 // The weight where one term has all n counts as its factor: the other term's factor is 0, and its logarithms are not taken.
 fn one_term(sheet: &[u32; SHEET_SIZE], n: u64, p: u64, q: u64) -> i64
-    requires { ⌜ (now sheet ≡ logSheet) × (n ≤ 98304) × Loggable p × Loggable q ⌝ }
+    requires { ⌜ (now sheet ≡ logSheet) × (n ≤ mostCounts) × Loggable p × Loggable q ⌝ }
     ensures { λ r. ⌜ r ≡ subℕ (n * lg p) (n * lg q) ⌝ }
 {
     let l = logarithm::lg_two(sheet, p, q);
@@ -27,7 +28,7 @@ fn one_term(sheet: &[u32; SHEET_SIZE], n: u64, p: u64, q: u64) -> i64
 
 // Both terms: k · (lg p − lg q) + rest · (lg s − lg t).
 fn two_terms(sheet: &[u32; SHEET_SIZE], k: u64, rest: u64, p: u64, q: u64, s: u64, t: u64) -> i64
-    requires { ⌜ (now sheet ≡ logSheet) × (k + rest ≤ 98304) × Loggable p × Loggable q × Loggable s × Loggable t ⌝ }
+    requires { ⌜ (now sheet ≡ logSheet) × (k + rest ≤ mostCounts) × Loggable p × Loggable q × Loggable s × Loggable t ⌝ }
     ensures { λ r. ⌜ r ≡ subℕ (k * lg p + rest * lg s) (k * lg q + rest * lg t) ⌝ }
 {
     let l = logarithm::lg_four(sheet, p, q, s, t);
@@ -39,7 +40,7 @@ fn two_terms(sheet: &[u32; SHEET_SIZE], k: u64, rest: u64, p: u64, q: u64, s: u6
 
 // The weight of a part that holds k of the n counts. If the fitted mass equals the count, no logarithm is taken.
 pub fn weight(sheet: &[u32; SHEET_SIZE], n: u64, k: u64, m: Mass) -> i64
-    requires { ⌜ (n ≤ 98304) × LogsDefined n k m × (now sheet ≡ logSheet) ⌝ }
+    requires { ⌜ (n ≤ mostCounts) × LogsDefined n k m × (now sheet ≡ logSheet) ⌝ }
     ensures { λ r. ⌜ r ≡ weight n k m ⌝ }
 {
     if m.num == k * m.den {
@@ -65,7 +66,7 @@ pub fn weight(sheet: &[u32; SHEET_SIZE], n: u64, k: u64, m: Mass) -> i64
 
 // The bar of a stretch of `bins` bins. At a closeness below 0 it can be negative.
 pub fn bar(sheet: &[u32; SHEET_SIZE], setting: u64, bins: u64) -> i64
-    requires { ⌜ (setting ≤ lastSetting) × (1 ≤ bins) × (bins ≤ 257) × (now sheet ≡ logSheet) ⌝ }
+    requires { ⌜ (setting ≤ lastSetting) × (1 ≤ bins) × (bins ≤ mostBins) × (now sheet ≡ logSheet) ⌝ }
     ensures { λ r. ⌜ r ≡ bar (closenessOf setting) bins ⌝ }
 {
     difference(

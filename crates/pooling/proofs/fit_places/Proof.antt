@@ -39,7 +39,7 @@ room c =
     omega (arith, block-room (p .last .1 .1 .0) (p .last .1 .1 .1 .0) (direction (a .rising)) (a .h .now) (c .before .loop .k) (p .result) (p .ensures) (c .loop-test .taken))
 
 pool-requires : tie.Need-pool-requires Inv-loop μ-loop
-pool-requires c κs = (omega arith, omega arith, omega arith, omega arith)
+pool-requires c κs = search needs
 
 loop-holds : tie.Need-loop-holds Inv-loop μ-loop
 unfolding stackOf binsIn

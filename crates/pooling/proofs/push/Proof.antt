@@ -6,6 +6,7 @@ use borrow.Author.Needs.{needs}
 use native.Mathlib.Omega.{arith}
 use lib.ListN.{length-set}
 use Rattle.pooling.specs.Blocks.{direction, push}
+use Rattle.pooling.specs.Limits.{mostBins, mostCounts}
 use Rattle.pooling.specs.Stack.{stackOf, sumIn, binsIn}
 use Rattle.pooling.proofs.Stacking.{sum-top, bins-top, push-none, push-strict, push-merged, stack-store}
 use Rattle.pooling.proofs.push.Statement.{statement}
@@ -14,8 +15,8 @@ use Rattle.pooling.proofs.push.Tie as tie
 abbrev Inv-loop : tie.InvT-loop
 Inv-loop sums lens n rising x top₀ s₀ l₀ top s l =
     (top ≤ n)
-    × (sumIn (stackOf sums lens top) + s ≤ 98304)
-    × (binsIn (stackOf sums lens top) + l ≤ 257)
+    × (sumIn (stackOf sums lens top) + s ≤ mostCounts)
+    × (binsIn (stackOf sums lens top) + l ≤ mostBins)
     × (push (direction rising) (record { sum = s; len = l }) (stackOf sums lens top) ≡ push (direction rising) (record { sum = x; len = 1 }) (stackOf sums lens n))
 
 abbrev μ-loop : tie.MeasureT-loop

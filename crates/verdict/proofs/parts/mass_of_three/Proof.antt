@@ -3,25 +3,26 @@ use Prim.Native.Nat.{_*_, _≤_}
 use native.Mathlib.Nat.{mul-le-mul}
 use native.Mathlib.Omega.{arith}
 use borrow.Author.Needs.{needs}
+use Rattle.pooling.specs.Limits.{mostBins, mostCounts}
 use Rattle.verdict.proofs.parts.mass_of_three.Statement.{statement}
 use Rattle.verdict.proofs.parts.mass_of_three.Tie as tie
 
-product : (c : tie.Start) → c .args .len * c .args .last-len ≤ 257 * 257
+product : (c : tie.Start) → c .args .len * c .args .last-len ≤ mostBins * mostBins
 product c = mul-le-mul (c .pre .0 .2) (c .pre .1 .2)
 
-tail : (c : tie.Start) → c .args .tail * c .args .sum ≤ 257 * 98304
+tail : (c : tie.Start) → c .args .tail * c .args .sum ≤ mostBins * mostCounts
 tail c = mul-le-mul (c .pre .0 .0) (c .pre .0 .1)
 
-first : (c : tie.Start) → c .args .tail * c .args .sum * c .args .last-len ≤ 257 * 98304 * 257
+first : (c : tie.Start) → c .args .tail * c .args .sum * c .args .last-len ≤ mostBins * mostCounts * mostBins
 first c = mul-le-mul (tail c) (c .pre .1 .2)
 
-between : (c : tie.Start) → c .args .between * (c .args .len * c .args .last-len) ≤ 98304 * (257 * 257)
+between : (c : tie.Start) → c .args .between * (c .args .len * c .args .last-len) ≤ mostCounts * (mostBins * mostBins)
 between c = mul-le-mul (c .pre .0 .3) (product c)
 
-head : (c : tie.Start) → c .args .head * c .args .last-sum ≤ 257 * 98304
+head : (c : tie.Start) → c .args .head * c .args .last-sum ≤ mostBins * mostCounts
 head c = mul-le-mul (c .pre .1 .0) (c .pre .1 .1)
 
-last : (c : tie.Start) → c .args .head * c .args .last-sum * c .args .len ≤ 257 * 98304 * 257
+last : (c : tie.Start) → c .args .head * c .args .last-sum * c .args .len ≤ mostBins * mostCounts * mostBins
 last c = mul-le-mul (head c) (c .pre .0 .2)
 
 mul-product : tie.Need-mul-product

@@ -4,6 +4,7 @@ use Prim.Native.Nat.{_+_, _-_, _≤_}
 use native.Mathlib.Nat.{mul-le-mul}
 use native.Mathlib.Numerals.{add-one}
 use native.Mathlib.Omega.{arith}
+use Rattle.pooling.specs.Limits.{mostBins}
 use Rattle.verdict.specs.Test.{massWithin}
 use borrow.Author.Needs.{needs}
 use Rattle.verdict.proofs.parts.mass_within.Statement.{statement}
@@ -18,7 +19,7 @@ sub-t5 c = search needs
 mul-t7 : tie.Need-mul-t7
 mul-t7 c =
     let s = c .before in
-    let bins : s .args .j + 1 - s .args .i ≤ 257 = omega arith in
+    let bins : s .args .j + 1 - s .args .i ≤ mostBins = omega arith in
     omega (arith, mul-le-mul bins (s .pre .2))
 
 returns : tie.Need-returns

@@ -1,11 +1,12 @@
 -- `running_totals` meets its contract. The loop's invariant: the sum is that of the bins passed, and stands behind each of them. Assumes nothing.
 use mathlib.Core.Path.{_≡_, refl, sym}
-use Prim.Native.Nat.{_-_, _≤_}
+use Prim.Native.Nat.{suc, _-_, _≤_}
 use native.Mathlib.Omega.{arith}
 use borrow.Author.Needs.{needs}
 use lib.ListN.{length, take, length-set}
 use Rattle.lists.specs.Lists.{total}
 use Rattle.lists.proofs.Sums.{total-more, total-at}
+use Rattle.pooling.specs.Limits.{mostBins}
 use Rattle.verdict.proofs.Scratch.{Filled, filled-none, filled-more}
 use Rattle.verdict.proofs.parts.running_totals.Statement.{statement}
 use Rattle.verdict.proofs.parts.running_totals.Tie as tie
@@ -14,7 +15,7 @@ abbrev Inv-loop : tie.InvT-loop
 Inv-loop h before₀ sum₀ i₀ before sum i =
     (i ≤ length h)
     × (sum ≡ total (take i h))
-    × (length before ≡ 258)
+    × (length before ≡ suc mostBins)
     × Filled h before i
 
 abbrev μ-loop : tie.MeasureT-loop

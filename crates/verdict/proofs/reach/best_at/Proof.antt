@@ -6,6 +6,7 @@ use native.Mathlib.Nat.{mul-le-mul}
 use mir.Syntax.{w64}
 use mir.ValLaws.{toZ-ofZ}
 use Rattle.logarithm.specs.Log.{unitsPerBit}
+use Rattle.pooling.specs.Limits.{mostCounts}
 use Rattle.verdict.specs.declared.Threshold.{Threshold}
 use Rattle.verdict.proofs.Sizes.{units-small}
 use Rattle.verdict.proofs.Sparing.{spared, factor-least, factor-some}
@@ -28,7 +29,7 @@ units-requires c κs = search needs
 add-over : tie.Need-add-over
 add-over c =
     let s = c .before .before in
-    let k : 3 * s .args .n ≤ 3 * 98304 = omega arith in
+    let k : 3 * s .args .n ≤ 3 * mostCounts = omega arith in
     omega (arith, c .units .ensures, mul-le-mul k units-small)
 
 shift-for-requires : tie.Need-shift-for-requires
