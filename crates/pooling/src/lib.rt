@@ -3,7 +3,7 @@ ghost use mathlib.Core.Path.{_≡_};
 ghost use mathlib.Core.List.{[], _++_, map};
 ghost use Prim.Native.Nat.{_+_, _-_, _<_, _≤_};
 ghost use lib.ListN.{length, take, replicate};
-ghost use Rattle.lists.specs.Lists.{total, over};
+ghost use Rattle.lists.specs.Lists.{over};
 ghost use Rattle.pooling.specs.Blocks.{Block, Place, direction, stepsTo, pushAll, places};
 ghost use Rattle.pooling.specs.Blocks as Blocks;
 ghost use Rattle.pooling.specs.Limits.{mostBins, mostCounts, Small};

@@ -99,6 +99,16 @@ fn signs(name: &str) -> Vec<&str> {
     name.split('_').filter(|sign| !sign.is_empty()).collect()
 }
 
+/// A name without Rattle's `!` or `&` before it. Signs alone stay, such as `&&`.
+fn without_prefix(word: &str) -> &str {
+    let name = word.trim_start_matches(['!', '&']);
+    if name.is_empty() {
+        word
+    } else {
+        name
+    }
+}
+
 /// The words of a line. Brackets, commas and stops part words; an empty list is a word. What follows a stop at once is a
 /// field, and so is what an equals sign follows at the beginning of a line, after a brace or after a semicolon: neither is
 /// the use of a name.
@@ -116,7 +126,7 @@ fn words(line: &str) -> Vec<&str> {
                 .last()
                 .map_or(true, |c| "{;".contains(c));
         if !word.is_empty() && !before.ends_with('.') && !given {
-            found.push(word);
+            found.push(without_prefix(word));
         }
         at += word.len();
         at += line[at..].chars().next().map_or(0, char::len_utf8);

@@ -57,4 +57,6 @@ fn fields_are_not_names() {
 fn names_in_rattle() {
     let text = "use a::Wide;\nuse b::c;\nghost use d.E.{\n  total,\n  _<_,\n};\nghost use d.Blocks as Blocks;\npub use e::kept;\n\n// Wide\nfn f(x: u8)\n    requires { ⌜ total x ≤ Blocks.push ⌝ }\n{ c::g(x) }\n";
     assert_eq!(unused(Language::Rattle, text), ["Wide", "_<_"]);
+    let text = text.replace("{ c::g(x) }", "{ !Wide(&c) }");
+    assert_eq!(unused(Language::Rattle, &text), ["_<_"]);
 }

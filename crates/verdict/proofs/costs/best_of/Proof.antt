@@ -1,6 +1,5 @@
 -- `best_of` meets its contract: the tables are those of the stretch. Assumes nothing.
 use mathlib.Core.Path.{refl, sym, _∙_}
-use native.Mathlib.Omega.{arith}
 use mir.Syntax.{w64}
 use mir.ValLaws.{toZ-ofZ}
 use Rattle.pooling.specs.Blocks.{direction}

@@ -1,15 +1,10 @@
 -- `best_weight` meets its contract: the two turns visit every part. Assumes nothing.
-use mathlib.Core.Path.{_≡_, sym, _∙_}
-use Prim.Native.Nat.{_-_}
 use native.Mathlib.Omega.{arith}
-use lib.ListN.{length}
 use lib.Signed.{≤ℤ-refl}
 use mir.Syntax.{w64}
 use mir.ValLaws.{toZ-ofZ}
-use Rattle.lists.specs.Lists.{total}
 use Rattle.pooling.specs.Blocks.{direction}
 use Rattle.verdict.proofs.Machine.{handed-back}
-use Rattle.verdict.proofs.Scratch.{running-all}
 use Rattle.verdict.proofs.Caps.{whole-attained, best-turns}
 use borrow.Author.Needs.{needs}
 use Rattle.verdict.proofs.search.best_weight.Statement.{statement}

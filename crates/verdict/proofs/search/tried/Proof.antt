@@ -1,18 +1,14 @@
 -- `tried` meets its contract: the counts come from the running totals. Assumes nothing.
 use mathlib.Core.Path.{_≡_, refl, ap, _∙_}
 use mathlib.Core.Bool.{cond}
-use Prim.Native.Nat.{_+_, _≤_}
-use native.Mathlib.Omega.{arith}
-use lib.ListN.{getD}
+use Prim.Native.Nat.{_≤_}
 use lib.IntN.{ℤ}
 use lib.Signed.{ltZ}
 use mir.Syntax.{w64}
 use mir.Val.{toZ, ofZ}
-use Rattle.lists.specs.Lists.{total, part}
 use Rattle.pooling.specs.Blocks.{direction, blocks}
 use Rattle.verdict.specs.Test.{partWeight}
 use Rattle.verdict.proofs.Machine.{handed-back}
-use Rattle.verdict.proofs.Scratch.{running-all, running-part}
 use Rattle.verdict.proofs.Range.{in-range}
 use Rattle.verdict.proofs.Caps.{turn-ordered}
 use borrow.Author.Needs.{needs}
