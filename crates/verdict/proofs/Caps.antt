@@ -21,7 +21,7 @@ use Rattle.pooling.proofs.Laws.{blocks-cut}
 use Rattle.verdict.specs.Test.{fittedMass, partWeight, largestWeight, bar, cost}
 use Rattle.verdict.specs.Settings.{lastSetting, closenessOf}
 use Rattle.verdict.specs.declared.Best.{Best}
-use Rattle.verdict.specs.Reach.{Spares, NearUpTo}
+use Rattle.verdict.specs.Near.{Spares, NearUpTo}
 use Rattle.verdict.specs.Scratch.{PlacesHeld, Capped, Attained, BestOf, EndingAt, firstOf, endOf, Turn, Part}
 use Rattle.verdict.proofs.Range.{in-range}
 use Rattle.verdict.proofs.Largest.{largest-part, part-largest}

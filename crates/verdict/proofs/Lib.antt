@@ -11,10 +11,11 @@ pub mod Settings
 pub mod Monotone
 pub mod Whole
 pub mod Band
+mod Products
 mod Means
 mod Growth
 mod Steps
-mod Near
+mod NearWeight
 mod Sparing
 mod Covered
 pub mod Sound

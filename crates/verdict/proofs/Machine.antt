@@ -1,6 +1,6 @@
--- Signed numbers as the machine holds them: the difference of two natural numbers, and the test of two signed numbers. Assumes nothing.
+-- Signed numbers as the machine holds them: the difference of two natural numbers, the test of two signed numbers, and one that is not negative read as a natural number. Assumes nothing.
 use mathlib.Core.Path.{_≡_, sym, ap, _∙_}
-use mathlib.Core.Bool.{Bool, false, false≢true}
+use mathlib.Core.Bool.{Bool}
 use Prim.Native.Nat.{ℕ, _+_, _-_, _^_, _≤_, _<_}
 use native.Mathlib.Omega.{arith}
 use lib.Dec.{T, le→leb}
@@ -34,11 +34,11 @@ pub less-fits : (x y : ℤ) → mag x < 2 ^ 62 → mag y < 2 ^ 62 → SFits w64 
 less-fits x y h k = record { sfits = less-size x y (2 ^ 63) (omega arith) }
 
 -- a signed number that is not negative, as a natural one
-pub natural-fits : (z : ℤ) → mag z < 2 ^ 63 → ltZ z (pos 0) ≡ false → T (nonNeg z) × Fits w64 (natAbs z)
-natural-fits (pos a) h e = (tt, record { fits = omega arith })
-natural-fits (negsuc a) h e = absurd (false≢true (sym e))
+pub natural-fits : (z : ℤ) → mag z < 2 ^ 63 → pos 0 ≤ℤ z → T (nonNeg z) × Fits w64 (natAbs z)
+natural-fits (pos a) h l = (tt, record { fits = omega arith })
+natural-fits (negsuc a) h l = absurd (l .le)
 
 -- what it is above l
-pub natural-above : (z : ℤ) (l : ℕ) → ltZ z (pos 0) ≡ false → l ≤ natAbs z → pos (natAbs z - l + l) ≤ℤ z
-natural-above (pos a) l e h = record { le = le→leb (a - l + l) a (omega arith) }
-natural-above (negsuc a) l e h = absurd (false≢true (sym e))
+pub natural-above : (z : ℤ) (l : ℕ) → pos 0 ≤ℤ z → l ≤ natAbs z → pos (natAbs z - l + l) ≤ℤ z
+natural-above (pos a) l n h = record { le = le→leb (a - l + l) a (omega arith) }
+natural-above (negsuc a) l n h = absurd (n .le)

@@ -17,11 +17,11 @@ use Rattle.verdict.specs.declared.Mass.{Mass}
 use Rattle.verdict.specs.declared.Threshold.{Threshold}
 use Rattle.verdict.specs.Test.{weight}
 use Rattle.verdict.specs.Exactness.{observed, expected, LogsDefined}
-use Rattle.verdict.specs.Reach.{gap, fittedRoom, countRoom, smallerOf, isSmall, isNear}
+use Rattle.verdict.specs.Near.{gap, fittedRoom, countRoom, smallerOf, isSmall, isNear}
 use Rattle.verdict.proofs.Terms.{weight-zero}
 use Rattle.verdict.proofs.Range.{positive-left, four-product}
 use Rattle.verdict.proofs.Steps.{steps, steps-twice}
-use Rattle.verdict.proofs.Near.{observed-one, observed-steps, near-weight}
+use Rattle.verdict.proofs.NearWeight.{observed-one, observed-steps, near-weight}
 
 -- ---- the figures of the test
 -- D, of two numbers whose sum is below 2^32
@@ -55,7 +55,7 @@ module _ (s room : ℕ) (t : Threshold) (some : 0 < s) (met : isSmall s room t �
       le-trans (mul-le-mul-right (2 ^ t .shift) (leb-true s (room / 2 ^ 4 * t .factor / 2 ^ t .shift) met))
       (div-mul-le-self (room / 2 ^ 4 * t .factor) (2 ^ t .shift))
 
-  pub near-enough : s * (16 * 2 ^ t .shift) ≤ room * t .factor
+  near-enough : s * (16 * 2 ^ t .shift) ≤ room * t .factor
   near-enough =
       let whole : room / 2 ^ 4 * 16 ≤ room = div-mul-le-self room 16 in
       le-trans (le-of-eq (turned s (2 ^ t .shift)))
@@ -71,10 +71,10 @@ module _ (s room : ℕ) (t : Threshold) (some : 0 < s) (met : isSmall s room t �
   some-product : 0 < room * t .factor
   some-product = let q : 0 < 16 * 2 ^ t .shift = omega (arith, pow-pos (t .shift)) in lt-of-lt-of-le (mul-pos some q) near-enough
 
-  pub some-room : 0 < room
+  some-room : 0 < room
   some-room = positive-left room (t .factor) some-product
 
-  pub some-factor : 0 < t .factor
+  some-factor : 0 < t .factor
   some-factor = positive-left (t .factor) room (lt-of-lt-of-le some-product (le-of-eq (mul-comm room (t .factor))))
 
 -- ---- 1 + .. + d as the code has it
@@ -121,20 +121,20 @@ module _ (n above : ℕ) (t : Threshold) (b : ℤ) (least : pos 0 ≤ℤ b) (rea
   pub spared : (k : ℕ) (m : Mass) → LogsDefined n k m → isNear n k m t ≡ true → weight n k m ≤ℤ b
   spared k m r e = apart-by k m r (gap k m) refl e
 
--- the factor is at most the quotient of the room, shifted, and 3·n·units + 1
-pub factor-least : (n c t room x : ℕ) → c ≤ x / (3 * n * unitsPerBit + 1) → x ≡ room * 2 ^ (t + 5) % 2 ^ 64 → 3 * (c * (n * unitsPerBit)) ≤ room * (2 ^ t * 32)
-factor-least n c t room x h e =
+-- the factor is at most the quotient of what the weight is above 2n, shifted, and 3·n·units + 1
+pub factor-least : (n c t exact x : ℕ) → c ≤ x / (3 * n * unitsPerBit + 1) → x ≡ exact * 2 ^ (t + 5) % 2 ^ 64 → 3 * (c * (n * unitsPerBit)) ≤ exact * (2 ^ t * 32)
+factor-least n c t exact x h e =
     let u = unitsPerBit in
     let a : c * (3 * n * u + 1) ≤ x / (3 * n * u + 1) * (3 * n * u + 1) = mul-le-mul-right (3 * n * u + 1) h in
     let b : x / (3 * n * u + 1) * (3 * n * u + 1) ≤ x = div-mul-le-self x (3 * n * u + 1) in
-    let f : room * 2 ^ (t + 5) % 2 ^ 64 ≤ room * 2 ^ (t + 5) = mod-le (room * 2 ^ (t + 5)) (2 ^ 64) in
-    let g : room * 2 ^ (t + 5) ≡ room * (2 ^ t * 32) = ap (λ (z : ℕ). room * z) (pow-add 2 t 5) in
+    let f : exact * 2 ^ (t + 5) % 2 ^ 64 ≤ exact * 2 ^ (t + 5) = mod-le (exact * 2 ^ (t + 5)) (2 ^ 64) in
+    let g : exact * 2 ^ (t + 5) ≡ exact * (2 ^ t * 32) = ap (λ (z : ℕ). exact * z) (pow-add 2 t 5) in
     omega arith
 
-pub factor-some : (c d room t : ℕ) → c ≤ room * 2 ^ t % 2 ^ 64 / d → 0 < c → 0 < room
-factor-some c d room t h some = go room refl
+pub factor-some : (c d exact t : ℕ) → c ≤ exact * 2 ^ t % 2 ^ 64 / d → 0 < c → 0 < exact
+factor-some c d exact t h some = go exact refl
   where
-    go : (x : ℕ) → room ≡ x → 0 < x
+    go : (x : ℕ) → exact ≡ x → 0 < x
     go zero e = absurd (none (rw (e, zero-mul) at h))
       where
         none : c ≤ 0 % 2 ^ 64 / d → ⊥

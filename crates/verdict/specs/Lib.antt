@@ -1,6 +1,6 @@
 pub mod Test
 pub mod Settings
 pub mod Exactness
-pub mod Reach
+pub mod Near
 pub mod Scratch
 pub mod Difference

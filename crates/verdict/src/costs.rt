@@ -2,7 +2,7 @@
 use crate::MOST_TOTALS;
 use crate::parts::running_totals;
 use crate::search::best_weight;
-use crate::search::is_below;
+use crate::signed::is_below;
 use crate::signed::less;
 use crate::signed::sum;
 use crate::weights::bar;

@@ -2,8 +2,8 @@
 // `judge` gives the verdict of one stretch in one direction at one closeness, which it takes as a setting; `setting_of` gives that.
 mod against;
 mod costs;
+mod near;
 mod parts;
-mod reach;
 mod search;
 mod signed;
 mod weights;
@@ -35,7 +35,7 @@ pub struct Mass {
     pub den: u64,
 }
 
-// How near its fitted mass a part's count must be to need no logarithm: a fraction of the most that the two can differ by, factor/2^(shift + 4).
+// When a part is near its fitted mass: if the square of the difference is at most factor/2^(shift + 4) of the room (`near.rt`).
 pub struct Threshold {
     pub factor: u64,
     pub shift: u32,

@@ -138,7 +138,7 @@ fn mass_across(
     )
 }
 
-// The fitted mass of the part from bin i to bin j, which a turn visits: all of it within the block of bin j, or across from an earlier one.
+// The fitted mass of the part from bin i to bin j. It begins in the block of bin j if the turn is `within` blocks, else in an earlier one.
 pub fn part_mass(
     h: &[u32],
     rising: bool,

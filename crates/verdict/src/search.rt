@@ -2,12 +2,13 @@
 use crate::Best;
 use crate::MOST_TOTALS;
 use crate::Threshold;
+use crate::near::best_at;
+use crate::near::is_near;
 use crate::parts::all_counts;
 use crate::parts::part_counts;
 use crate::parts::part_mass;
 use crate::parts::wide;
-use crate::reach::best_at;
-use crate::reach::is_near;
+use crate::signed::is_below;
 use crate::weights::weight;
 use logarithm::SHEET_SIZE;
 use pooling::MOST_BINS;
@@ -20,20 +21,13 @@ ghost use Rattle.lists.specs.Lists.{total};
 ghost use Rattle.logarithm.specs.Sheet.{logSheet};
 ghost use Rattle.pooling.specs.Blocks.{direction, blocks};
 ghost use Rattle.pooling.specs.Limits.{mostBins, mostCounts};
-ghost use Rattle.verdict.specs.Reach.{Usable, Spares, Tried, NearUpTo};
+ghost use Rattle.verdict.specs.Near.{Usable, Spares, Tried, NearUpTo};
 ghost use Rattle.verdict.specs.Scratch.{Scratch, Attained, BestOf, EndingAt, firstOf, endOf, Turn, Part};
 
 // The two turns of a search: the parts within one block, and those across blocks.
 const WITHIN: bool = true;
 
 const ACROSS: bool = false;
-
-// x is below y.
-pub fn is_below(x: i64, y: i64) -> bool
-    ensures { λ r. ⌜ r ≡ ltZ x y ⌝ }
-{
-    x < y
-}
 
 // The better of the best weight so far and another.
 fn better(n: u64, best: Best, weight: i64) -> Best

@@ -1,8 +1,8 @@
-// Signed figures: the difference of two sums, the sign, adding and subtracting.
+// Signed figures: the difference of two sums, the lesser, the sign, adding and subtracting.
 ghost use mathlib.Core.Path.{_≡_};
 ghost use Prim.Native.Nat.{_<_, _^_};
 ghost use lib.IntN.{pos, subℕ, _+ℤ_, _-ℤ_};
-ghost use lib.Signed.{leZ, mag};
+ghost use lib.Signed.{leZ, ltZ, mag};
 
 // a minus b.
 pub fn difference(a: u64, b: u64) -> i64
@@ -10,6 +10,13 @@ pub fn difference(a: u64, b: u64) -> i64
     ensures { λ r. ⌜ r ≡ subℕ a b ⌝ }
 {
     (a as i64) - (b as i64)
+}
+
+// x is below y.
+pub fn is_below(x: i64, y: i64) -> bool
+    ensures { λ r. ⌜ r ≡ ltZ x y ⌝ }
+{
+    x < y
 }
 
 // Zero or more.

@@ -14,7 +14,7 @@ use Rattle.lists.specs.Lists.{total}
 use Rattle.lists.proofs.Signed.{le-trans-ℤ}
 use Rattle.pooling.specs.Blocks.{direction, blocks}
 use Rattle.verdict.specs.Scratch.{BestOf, EndingAt, firstOf, endOf}
-use Rattle.verdict.specs.Reach.{Spares}
+use Rattle.verdict.specs.Near.{Spares}
 use Rattle.verdict.proofs.Machine.{handed-back}
 use Rattle.verdict.proofs.Caps.{start-le, end-le, larger-above, near-no-better, best-none, best-stops, best-same, best-more, best-no-better}
 use Rattle.verdict.proofs.search.best_ending_at.Statement.{statement}

@@ -13,7 +13,7 @@ use Rattle.lists.specs.Lists.{total}
 use Rattle.lists.proofs.Signed.{le-trans-ℤ}
 use Rattle.pooling.specs.Blocks.{direction, blocks}
 use Rattle.verdict.specs.Scratch.{BestOf, Turn}
-use Rattle.verdict.specs.Reach.{Spares}
+use Rattle.verdict.specs.Near.{Spares}
 use Rattle.verdict.proofs.Machine.{handed-back}
 use Rattle.verdict.proofs.Caps.{best-none, best-stops, best-same, best-bin}
 use Rattle.verdict.proofs.search.best_in_turn.Statement.{statement}

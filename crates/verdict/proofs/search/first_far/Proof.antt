@@ -11,7 +11,7 @@ use Rattle.lists.specs.Lists.{total, part}
 use Rattle.lists.proofs.Cases.{by-order}
 use Rattle.pooling.specs.Blocks.{direction, blocks}
 use Rattle.verdict.specs.Test.{fittedMass}
-use Rattle.verdict.specs.Reach.{isNear, NearUpTo}
+use Rattle.verdict.specs.Near.{isNear, NearUpTo}
 use Rattle.verdict.specs.Scratch.{Turn}
 use Rattle.verdict.proofs.Range.{in-range}
 use Rattle.verdict.proofs.Caps.{turn-ordered}

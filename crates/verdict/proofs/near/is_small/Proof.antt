@@ -1,8 +1,8 @@
 -- `is_small` meets its contract: the product fits. Assumes nothing.
 use borrow.Author.Needs.{needs}
 use Rattle.verdict.proofs.Sparing.{scaled-small}
-use Rattle.verdict.proofs.reach.is_small.Statement.{statement}
-use Rattle.verdict.proofs.reach.is_small.Tie as tie
+use Rattle.verdict.proofs.near.is_small.Statement.{statement}
+use Rattle.verdict.proofs.near.is_small.Tie as tie
 
 cast-result : tie.Need-cast-result
 cast-result c = search needs

@@ -6,11 +6,11 @@ use native.Mathlib.Omega.{arith}
 use native.Mathlib.Nat.{mul-le-mul-right}
 use borrow.Author.Needs.{needs}
 use Rattle.logarithm.proofs.Laws.{square-fits}
-use Rattle.verdict.specs.Reach.{gap, fittedRoom, countRoom, isSmall, isNear}
+use Rattle.verdict.specs.Near.{gap, fittedRoom, countRoom, isSmall, isNear}
 use Rattle.verdict.proofs.Terms.{counted}
 use Rattle.verdict.proofs.Sparing.{room-small, steps-fit, smaller-left}
-use Rattle.verdict.proofs.reach.is_near.Statement.{statement}
-use Rattle.verdict.proofs.reach.is_near.Tie as tie
+use Rattle.verdict.proofs.near.is_near.Statement.{statement}
+use Rattle.verdict.proofs.near.is_near.Tie as tie
 
 -- the figures, at the function's entry
 count-small : (s : tie.Start) → s .args .k * s .args .m .den < 2 ^ 32

@@ -11,8 +11,8 @@ use Rattle.verdict.specs.declared.Threshold.{Threshold}
 use Rattle.verdict.proofs.Sizes.{units-small}
 use Rattle.verdict.proofs.Sparing.{spared, factor-least, factor-some}
 use borrow.Author.Needs.{needs}
-use Rattle.verdict.proofs.reach.best_at.Statement.{statement}
-use Rattle.verdict.proofs.reach.best_at.Tie as tie
+use Rattle.verdict.proofs.near.best_at.Statement.{statement}
+use Rattle.verdict.proofs.near.best_at.Tie as tie
 
 mul-above : tie.Need-mul-above
 mul-above c = search needs

@@ -1,7 +1,7 @@
 -- When a part is known, without a logarithm, to weigh no more than the best part so far. No public promise cites it. Assumes nothing.
 --   gap                       d = |kB − A|: how far the count is from the fitted mass
 --   fittedRoom, countRoom     A·(NB − A) and kB·(NB − kB): the larger they are beside d², the smaller the weight
---   a threshold c, t          s is small beside a room M if s ≤ M·c/2^(t + 4), rounded down
+--   a threshold c, t          s is small beside a room M if s ≤ ⌊⌊M/16⌋·c/2^t⌋
 use Prim.Native.Nat.{ℕ, _+_, _*_, _-_, _/_, _^_, _≤_, _<_}
 use mathlib.Core.Path.{_≡_}
 use mathlib.Core.Bool.{Bool, true, cond, _||_}
@@ -44,7 +44,7 @@ isNear n k m t =
     isSmall (gap k m * gap k m) (fittedRoom n m) t
     || isSmall (gap k m * (gap k m + 1) / 2) (smallerOf (fittedRoom n m) (countRoom n k m)) t
 
--- the best weight so far, 0 or more, with a threshold that spares each near part of n counts its logarithms
+-- the best weight so far, 0 or more, with a threshold that spares each near part of a stretch of n counts its logarithms
 pub record Spares (n : ℕ) (b : Best) : Type 0 where
   pub least : pos 0 ≤ℤ b .weight
   pub usable : Usable (b .threshold)

@@ -1,4 +1,6 @@
 // Parts that need no logarithm: their count is so near their fitted mass that they cannot weigh more than the best part so far.
+// Let d be the difference of kB and A, and call A·(NB − A) the room of the fitted mass, kB·(NB − kB) that of the count. A part weighs at most 3/2 · n · d²/room bits, up to what its logarithms round off.
+// `best_at` solves this for d²/room, and `is_near` compares.
 use crate::Best;
 use crate::Mass;
 use crate::Threshold;
@@ -9,16 +11,23 @@ ghost use lib.IntN.{pos};
 ghost use lib.Signed.{_≤ℤ_};
 ghost use Rattle.pooling.specs.Limits.{mostCounts};
 ghost use Rattle.verdict.specs.Exactness.{LogsDefined};
-ghost use Rattle.verdict.specs.Reach.{smallerOf, isSmall, isNear, Spares, Usable};
+ghost use Rattle.verdict.specs.Near.{smallerOf, isSmall, isNear, Spares, Usable};
+
+// What the logarithms of a weight round off at most, in units for each count of the stretch (rule L4).
+const ROUNDED_OFF: u64 = 2;
+
+// Twice 3/2 bits.
+const TWICE_BITS: u64 = 3;
 
 // A room is below 2^62. Without its last four bits it can be multiplied by a factor of six bits.
 const DROPPED_BITS: u32 = 4;
 
-// The quotient in `best_at` makes up for them, and for the 2 of 3n/2, which it leaves out.
+// The quotient in `best_at` makes up for the dropped bits, and for the bits taken twice.
 const ADDED_BITS: u32 = DROPPED_BITS + 1;
 
 const LARGEST_FACTOR: u64 = 63;
 
+// With a larger shift hardly a part would be near; the limit keeps shifts within a word.
 const LARGEST_SHIFT: u32 = 40;
 
 // How far apart two numbers are.
@@ -30,11 +39,9 @@ fn apart(x: u64, y: u64) -> u64
 
 // By how much a weight is above a number; 0 if it is not.
 fn above(weight: i64, least: u64) -> u64
+    requires { ⌜ pos 0 ≤ℤ weight ⌝ }
     ensures { λ r. ⌜ (0 < r → pos (r + least) ≤ℤ weight) ⌝ }
 {
-    if weight < 0 {
-        return 0;
-    }
     let w = weight as u64;
     if w < least { 0 } else { w - least }
 }
@@ -65,13 +72,13 @@ fn capped_factor(x: u64) -> u64
     }
 }
 
-// A best weight, with its threshold. Of the weight 2n is set aside for what the logarithms round off.
+// A best weight, with its threshold. What the logarithms may have rounded off is set aside first.
 pub fn best_at(n: u64, weight: i64) -> Best
     requires { ⌜ (n ≤ mostCounts) × (pos 0 ≤ℤ weight) ⌝ }
     ensures { λ r. ⌜ (r .weight ≡ weight) × Spares n r ⌝ }
 {
-    let exact = above(weight, 2 * n);
-    let over = Logarithm::units(3 * n) + 1;
+    let exact = above(weight, ROUNDED_OFF * n);
+    let over = Logarithm::units(TWICE_BITS * n) + 1;
     let shift = shift_for(exact, over);
     let factor = capped_factor((exact << (shift + ADDED_BITS)) / over);
     Best {

@@ -8,30 +8,29 @@ use lib.IntN.{ℤ, pos, negsuc, subℕ}
 use lib.Signed.{_≤ℤ_}
 use lib.Pow.{pow-add, pow-lt}
 use native.Mathlib.Omega.{arith}
-use native.Mathlib.Nat.{mul-assoc, mul-comm, mul-left-comm, mul-one, one-mul, le-trans, le-of-eq, lt-of-le-of-lt, mul-le-mul-left, mul-le-mul-right, le-of-mul-le-mul-right, pow-le-pow-left, one-le-pow}
+use native.Mathlib.Nat.{mul-left-comm, le-trans, le-of-eq, lt-of-le-of-lt, mul-le-mul-left, mul-le-mul-right, le-of-mul-le-mul-right, pow-le-pow-left, one-le-pow}
 use Rattle.lists.proofs.Cases.{by-cond, by-order}
 use Rattle.lists.proofs.Powers.{mul-pow, pow-pow, pow-lt-cancel}
 use Rattle.logarithm.specs.Log.{unitsPerBit}
 use Rattle.verdict.specs.declared.Mass.{Mass}
 use Rattle.verdict.specs.Test.{weight}
 use Rattle.verdict.specs.Exactness.{observed, expected, LogsDefined}
-use Rattle.verdict.specs.Reach.{gap, fittedRoom, countRoom}
+use Rattle.verdict.specs.Near.{gap, fittedRoom, countRoom}
 use Rattle.verdict.proofs.Terms.{observedLog, expectedLog}
 use Rattle.verdict.proofs.Band.{observed-low, expected-high}
+use Rattle.verdict.proofs.Products.{products, turned}
 use Rattle.verdict.proofs.Steps.{steps, Apart, in-one, in-steps}
 use Rattle.verdict.proofs.Growth.{growth}
-
-ruleset products = (mul-assoc, mul-comm, mul-left-comm, mul-one, one-mul)
 
 -- ---- raised to u and to e = 2H
 lift : (a b s n u e : ℕ) → ((a * b ^ (s * n)) ^ u) ^ e ≡ (a ^ u) ^ e * (b ^ (s * e)) ^ (n * u)
 lift a b s n u e =
     ap (λ (z : ℕ). z ^ e) (mul-pow a (b ^ (s * n)) u ∙ ap (λ (z : ℕ). a ^ u * z) (pow-pow b (s * n) u))
     ∙ mul-pow (a ^ u) (b ^ (s * n * u)) e
-    ∙ ap (λ (z : ℕ). (a ^ u) ^ e * z) (pow-pow b (s * n * u) e ∙ ap (λ (z : ℕ). b ^ z) (turned s n u e) ∙ sym (pow-pow b (s * e) (n * u)))
+    ∙ ap (λ (z : ℕ). (a ^ u) ^ e * z) (pow-pow b (s * n * u) e ∙ ap (λ (z : ℕ). b ^ z) (regrouped s n u e) ∙ sym (pow-pow b (s * e) (n * u)))
   where
-    turned : (s n u e : ℕ) → s * n * u * e ≡ s * e * (n * u)
-    turned s n u e = simp products
+    regrouped : (s n u e : ℕ) → s * n * u * e ≡ s * e * (n * u)
+    regrouped s n u e = simp products
 
 raised : (X Y M s q c n u : ℕ) → 0 < M → X * M ^ (s * n) ≤ Y * suc M ^ (s * n) → s * (16 * q) ≤ M * c → (X ^ u) ^ (q * 32) ≤ (Y ^ u) ^ (q * 32) * 2 ^ (3 * (c * (n * u)))
 raised X Y M s q c n u p h k =
@@ -45,9 +44,6 @@ raised X Y M s q c n u p h k =
     (ap (λ (z : ℕ). (Y ^ u) ^ e * z) (mul-pow (M ^ (s * e)) (8 ^ c) (n * u) ∙ ap (λ (z : ℕ). (M ^ (s * e)) ^ (n * u) * z) (pow-pow 8 c (n * u) ∙ pow-pow 2 3 (c * (n * u))))
     ∙ turned ((Y ^ u) ^ e) ((M ^ (s * e)) ^ (n * u)) (2 ^ (3 * (c * (n * u))))))))))
     (one-le-pow (n * u) (M ^ (s * e)) (one-le-pow (s * e) M p))
-  where
-    turned : (a b c : ℕ) → a * (b * c) ≡ a * c * b
-    turned a b c = simp products
 
 -- ---- back to the exponents
 pow-le-cancel : (i j : ℕ) → 2 ^ i ≤ 2 ^ j → i ≤ j
