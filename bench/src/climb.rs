@@ -123,7 +123,7 @@ impl Climber {
             for _ in 0..1 + random.below(3) {
                 change(&mut line, random);
             }
-            if counts(&line) > MOST_COUNTS {
+            if total(&line) > MOST_COUNTS {
                 continue;
             }
             let changed = Climber::new(line);
@@ -133,10 +133,6 @@ impl Climber {
             }
         }
     }
-}
-
-fn counts(line: &[u32]) -> u64 {
-    line.iter().map(|&bin| u64::from(bin)).sum()
 }
 
 fn change(line: &mut [u32], random: &mut Random) {

@@ -33,10 +33,11 @@ pub struct Largest {
     entropy: u64,
 }
 
-/// With the 26 places of the units and the 26 of LN_2 they make 64.
-const QUOTIENT_PLACES: u32 = 12;
-/// ln 2 with 26 places, rounded down.
+/// ln 2 with so many binary places, rounded down.
 const LN_2: u64 = 46_516_319;
+const LN_2_PLACES: u32 = 26;
+/// With the places of the units and of ln 2 they make 64.
+const QUOTIENT_PLACES: u32 = 64 - ROUNDS - LN_2_PLACES;
 
 /// Far more than all roundings of one comparison in floating point together: fewer than 16, each by less than 2^-52.
 const MARGIN: f64 = 1.0 / (1u64 << 40) as f64;

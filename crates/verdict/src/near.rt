@@ -72,7 +72,7 @@ fn capped_factor(x: u64) -> u64
     }
 }
 
-// A best weight, with its threshold. What the logarithms may have rounded off is set aside first.
+// A best weight, with its threshold. What the logarithms may have rounded off is set aside first. The 1 keeps the divisor above 0 where there are no counts.
 pub fn best_at(n: u64, weight: i64) -> Best
     requires { ⌜ (n ≤ mostCounts) × (pos 0 ≤ℤ weight) ⌝ }
     ensures { λ r. ⌜ (r .weight ≡ weight) × Spares n r ⌝ }
