@@ -1,8 +1,8 @@
 -- What the threshold of a best weight spares, and that the figures of the test fit. Assumes nothing.
 use Prim.Native.Nat.{ℕ, zero, suc, _+_, _*_, _-_, _/_, _%_, _^_, _≤_, _<_}
 use mathlib.Core.Path.{_≡_, refl, ap}
-use mathlib.Core.Bool.{Bool, true, false, _||_}
-use mathlib.Core.Logic.{_⊎_, inl, inr, ⊎-elim}
+use mathlib.Core.Bool.{true}
+use mathlib.Core.Logic.{⊎-elim}
 use lib.Dec.{ltb}
 use lib.IntN.{ℤ, pos}
 use lib.Signed.{_≤ℤ_}
@@ -11,6 +11,7 @@ use native.Mathlib.Omega.{arith}
 use native.Mathlib.Nat.{mul-comm, zero-mul, le-trans, le-refl, le-of-eq, le-of-lt, lt-of-lt-of-le, mul-le-mul, mul-le-mul-right, mul-pos, div-mul-le-self, mod-le, zero-div}
 use borrow.Author.Tests.{leb-true, ltb-true, ltb-false}
 use Rattle.lists.proofs.Cases.{by-cond}
+use Rattle.lists.proofs.Connectives.{either-true}
 use Rattle.lists.proofs.Signed.{le-trans-ℤ}
 use Rattle.logarithm.specs.Log.{unitsPerBit}
 use Rattle.verdict.specs.declared.Mass.{Mass}
@@ -90,10 +91,6 @@ smaller-left x y = by-cond (λ (z : ℕ). z ≤ x) (ltb x y) x y (λ e. le-refl 
 smaller-right : (x y : ℕ) → smallerOf x y ≤ y
 smaller-right x y = by-cond (λ (z : ℕ). z ≤ y) (ltb x y) x y (λ e. le-of-lt (ltb-true x y e)) (λ e. le-refl y)
 
-either : (a b : Bool) → a || b ≡ true → (a ≡ true) ⊎ (b ≡ true)
-either true b e = inl refl
-either false b e = inr e
-
 -- ---- what is spared, where a weight b lies `above` over 2n, and the threshold comes from that
 module _ (n above : ℕ) (t : Threshold) (b : ℤ) (least : pos 0 ≤ℤ b) (reached : 0 < above → pos (above + 2 * n) ≤ℤ b)
     (most : 3 * (t .factor * (n * unitsPerBit)) ≤ above * (2 ^ t .shift * 32)) (some : 0 < t .factor → 0 < above) where
@@ -116,7 +113,7 @@ module _ (n above : ℕ) (t : Threshold) (b : ℤ) (least : pos 0 ≤ℤ b) (rea
         (λ f. spared-by (fittedRoom n m) (gap k m * gap k m) (mul-pos p p) f (observed-one n k m r))
         (λ f. spared-by M (steps (gap k m)) (steps-some (gap k m) p) (rw (steps-half (gap k m)) at f)
         (λ q. observed-steps n k m r M q (smaller-left (fittedRoom n m) (countRoom n k m)) (smaller-right (fittedRoom n m) (countRoom n k m))))
-        (either (isSmall (gap k m * gap k m) (fittedRoom n m) t) (isSmall (gap k m * (gap k m + 1) / 2) M t) e)
+        (either-true (isSmall (gap k m * gap k m) (fittedRoom n m) t) (isSmall (gap k m * (gap k m + 1) / 2) M t) e)
 
   pub spared : (k : ℕ) (m : Mass) → LogsDefined n k m → isNear n k m t ≡ true → weight n k m ≤ℤ b
   spared k m r e = apart-by k m r (gap k m) refl e

@@ -1,5 +1,5 @@
 // The cost of a stretch, up to a cap.
-use crate::MOST_TOTALS;
+use crate::parts::MOST_TOTALS;
 use crate::parts::running_totals;
 use crate::search::best_weight;
 use crate::signed::is_below;

@@ -11,7 +11,6 @@ mod weights;
 use against::step_against;
 pub use costs::capped_cost;
 use costs::cost;
-use pooling::MOST_BINS;
 use signed::not_negative;
 ghost use mathlib.Core.Path.{_≡_};
 ghost use Prim.Native.Nat.{_≤_};
@@ -20,9 +19,6 @@ ghost use Rattle.pooling.specs.Blocks.{direction};
 ghost use Rattle.pooling.specs.Limits.{Small};
 ghost use Rattle.verdict.specs.Test.{verdictOf};
 ghost use Rattle.verdict.specs.Settings.{lastSetting, closenessOf, Offered};
-
-// There is a running total before each bin of a stretch, and one of all bins.
-const MOST_TOTALS: usize = MOST_BINS + 1;
 
 // The least and the largest closeness. One more closeness asks for one more bit of evidence before a stretch is rejected (rule T4).
 pub const LEAST_CLOSENESS: i32 = -10;

@@ -1,5 +1,4 @@
 // The parts of a stretch: what is kept about the stretch while its parts are tested, and the fitted mass of a part.
-use crate::MOST_TOTALS;
 use crate::Mass;
 use pooling::Block;
 use pooling::MOST_BINS;
@@ -12,6 +11,9 @@ ghost use Rattle.pooling.specs.Blocks.{direction, blocks};
 ghost use Rattle.pooling.specs.Limits.{mostBins, mostCounts, Small};
 ghost use Rattle.verdict.specs.Test.{placeOf, massWithin, massOfThree, massAcross, fittedMass};
 ghost use Rattle.verdict.specs.Scratch.{RunningTotals, PlacesHeld, Across, Scratch, Turn};
+
+// There is a running total before each bin of a stretch, and one of all bins.
+pub const MOST_TOTALS: usize = MOST_BINS + 1;
 
 pub fn wide(x: u32) -> u64
     ensures { λ r. ⌜ r ≡ x ⌝ }

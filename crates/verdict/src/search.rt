@@ -1,9 +1,9 @@
 // The search for the best weight of a stretch's parts, up to a limit: it stops at the first weight that reaches the limit, and weighs no part that is near its fitted mass.
 use crate::Best;
-use crate::MOST_TOTALS;
 use crate::Threshold;
 use crate::near::best_at;
 use crate::near::is_near;
+use crate::parts::MOST_TOTALS;
 use crate::parts::all_counts;
 use crate::parts::part_counts;
 use crate::parts::part_mass;
