@@ -1,4 +1,4 @@
-// Signed figures: the difference of two sums, the lesser, the sign, adding and subtracting.
+// Signed figures: the difference of two sums, the test which of two is below, the sign, adding and subtracting.
 ghost use mathlib.Core.Path.{_≡_};
 ghost use Prim.Native.Nat.{_<_, _^_};
 ghost use lib.IntN.{pos, subℕ, _+ℤ_, _-ℤ_};

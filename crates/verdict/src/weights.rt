@@ -38,8 +38,8 @@ fn two_terms(sheet: &[u32; SHEET_SIZE], k: u64, rest: u64, p: u64, q: u64, s: u6
     )
 }
 
-// The weight of a part that holds k of the n counts. If the fitted mass equals the count, it is 0: without this case no counts at all would be out of the logarithm's range.
-// The search never weighs such a part.
+// The weight of a part that holds k of the n counts. If the fitted mass equals the count, it is 0. The search never weighs such a part;
+// the case is here because a stretch without counts has nothing that a logarithm could be taken of.
 pub fn weight(sheet: &[u32; SHEET_SIZE], n: u64, k: u64, m: Mass) -> i64
     requires { ⌜ (n ≤ mostCounts) × LogsDefined n k m × (now sheet ≡ logSheet) ⌝ }
     ensures { λ r. ⌜ r ≡ weight n k m ⌝ }
