@@ -34,6 +34,6 @@ spread-back (b ∷ bs) cs = spread-back bs (b ∷ cs) ∙ sym (replicate-back (b
 pub mirror-image : MirrorImage
 unfolding fitted
 mirror-image h = record {
-  blocksMirrored = blocks-mirror increasing h;
-  fitMirrored = ap spread (blocks-mirror increasing h) ∙ spread-back (blocks increasing (reverse h)) [];
+  blocksMirrored = blocks-mirror h;
+  fitMirrored = ap spread (blocks-mirror h) ∙ spread-back (blocks increasing (reverse h)) [];
 }

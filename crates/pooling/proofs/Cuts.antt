@@ -1,4 +1,4 @@
--- The laws of bins that are cut into blocks: no block is empty, and the blocks have all bins; where a block lies and what its sum is; the block of a bin. Assumes nothing.
+-- The laws of bins that are cut into blocks: no block is empty, and the blocks have all bins and counts; where a block lies and what its sum is; the block of a bin. Assumes nothing.
 --   Begins h bs n b    of the bins h, cut into the blocks bs, the block b begins at bin n
 --   PlaceOf h bs i p   the place p is that of bin i: its block begins where p says, and holds bin i
 use mathlib.Core.Path.{_≡_, refl, ap, _∙_}
@@ -9,12 +9,12 @@ use lib.ListN.{length, take, length-append}
 use lib.Seq.{take-append-seam}
 use Rattle.lists.specs.Lists.{total}
 use Rattle.lists.proofs.Cases.{by-order}
-use Rattle.lists.proofs.Sums.{total-take-le}
+use Rattle.lists.proofs.Sums.{total-append, total-take-le}
 use Rattle.lists.proofs.Parts.{total-take-append}
 use Rattle.pooling.specs.Blocks.{Block, Place}
 use Rattle.pooling.specs.Best.{CutInto, empty, first}
-use Rattle.pooling.specs.Stack.{binsIn}
-use Rattle.pooling.proofs.Leading.{Full}
+use Rattle.pooling.specs.Stack.{sumIn, binsIn}
+use Rattle.pooling.proofs.Basics.{Full}
 
 pub cut-full : {h : List ℕ} {bs : List Block} → CutInto h bs → Full bs
 cut-full empty = tt
@@ -24,6 +24,15 @@ pub cut-bins : {h : List ℕ} {bs : List Block} → CutInto h bs → binsIn bs �
 unfolding binsIn
 cut-bins empty = refl
 cut-bins (first x {h = h} some c) = omega (arith, cut-bins c, length-append x h)
+
+pub cut-sum : {h : List ℕ} {bs : List Block} → CutInto h bs → sumIn bs ≡ total h
+unfolding sumIn
+cut-sum empty = refl
+cut-sum (first x {h = h} some c) = omega (arith, cut-sum c, total-append x h)
+
+pub cut-few : {h : List ℕ} {bs : List Block} → CutInto h bs → length bs ≤ length h
+cut-few empty = omega arith
+cut-few (first x {h = h} some c) = omega (arith, cut-few c, length-append x h)
 
 -- ---- one block of the cut
 abbrev pub blockOf : List ℕ → Block

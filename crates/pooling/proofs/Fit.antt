@@ -9,7 +9,7 @@ use lib.IntN.{ℤ, pos, negsuc, subℕ, _+ℤ_, _-ℤ_}
 use lib.Signed.{≤ℤ-refl}
 use lib.ListN.{length, replicate, getD, length-map, List·getD-map}
 use Rattle.pooling.specs.Blocks.{Block, increasing, Strict, StrictFrom}
-use Rattle.pooling.proofs.Leading.{Full}
+use Rattle.pooling.proofs.Basics.{Full}
 use Rattle.pooling.specs.Fraction.{Fraction, _≤Q_, Proper, Ordered, OrderedFrom, CommonDenominator, times, sumℤ, sq, squares, scaled, error}
 use Rattle.pooling.specs.Best.{mean, at, CutInto, Best}
 use Rattle.lists.specs.Lists.{total}

@@ -1,5 +1,4 @@
 -- Blocks that pooling makes for an increasing fit: the first bins of a block, however many, never have a mean below the block's, and means rise strictly. Assumes nothing.
--- Two neighbours may become one unless the first has the lower mean, so pooling from the last bin to the first also makes such blocks.
 use mathlib.Core.Path.{_≡_, refl, sym, ap, subst}
 use mathlib.Core.List.{List, [], _∷_, _++_, append-assoc}
 use Prim.Native.Nat.{ℕ, suc, _+_, _*_, _-_, _≤_, _<_}
@@ -7,9 +6,9 @@ use native.Mathlib.Nat.{mul-le-mul-left, le-of-mul-le-mul-left, eq-of-mul-eq-mul
 use native.Mathlib.Omega.{arith}
 use borrow.Author.Tests.{ltb-true, ltb-false}
 use lib.ListN.{length, length-append}
-use Rattle.pooling.specs.Blocks.{Block, increasing, below, merged, Strict}
+use Rattle.pooling.specs.Blocks.{Block, increasing, below, merged, lead, blocks, Strict}
 use Rattle.pooling.specs.Best.{CutInto, empty, first}
-use Rattle.pooling.proofs.Leading.{lead, blocksFromLast, strict-tail, block-eq}
+use Rattle.pooling.proofs.Basics.{strict-tail, block-eq}
 use Rattle.lists.specs.Lists.{total}
 use Rattle.lists.proofs.Cases.{by-cond}
 use Rattle.lists.proofs.Sums.{total-append}
@@ -102,7 +101,7 @@ forms-join {x} {y} {b} {c} p q h =
           (run-second (b .len) (b .sum) (c .len) (c .sum) d hd (q .some) y 0 d (omega (arith, ap (λ (z : ℕ). z * d) (q .long))) (q .heavy));
     }
 
--- ---- pooling from the last bin to the first makes such blocks
+-- ---- pooling makes such blocks
 pub lead-rises : {x h : List ℕ} {b : Block} {bs : List Block} → Forms x b → Cut h bs → Strict increasing bs → Rises (x ++ h) (lead increasing b bs)
 unfolding lead
 lead-rises {b} p done r = record { cut = seg p done; rising = tt }
@@ -115,9 +114,9 @@ lead-rises {x} {b} p (seg {x = y} {h = h} {b = c} {bs = cs} q k) r =
 pub single : (x : ℕ) → Forms (x ∷ []) (record { sum = x; len = 1 })
 single x = record { long = refl; some = omega arith; sums = omega arith; heavy = (omega arith, omega arith) }
 
-pub last-rises : (h : List ℕ) → Rises h (blocksFromLast increasing h)
-unfolding blocksFromLast
-last-rises [] = record { cut = done; rising = tt }
-last-rises (x ∷ h) =
-    let k = last-rises h in
+pub blocks-rise : (h : List ℕ) → Rises h (blocks increasing h)
+unfolding blocks
+blocks-rise [] = record { cut = done; rising = tt }
+blocks-rise (x ∷ h) =
+    let k = blocks-rise h in
     lead-rises (single x) (k .cut) (k .rising)

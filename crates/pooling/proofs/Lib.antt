@@ -1,4 +1,4 @@
-pub mod Leading
+pub mod Basics
 pub mod Heavy
 pub mod Cuts
 pub mod Gap

@@ -10,7 +10,7 @@ use Rattle.pooling.specs.Fraction.{Fraction, Follows, Ordered, OrderedFr
 use Rattle.pooling.specs.Best.{mean, at, Best}
 use Rattle.lists.proofs.Repeats.{replicate-back}
 use Rattle.lists.proofs.Reversal.{getD-reverse, total-reverse}
-use Rattle.pooling.proofs.Leading.{turn}
+use Rattle.pooling.proofs.Basics.{turn}
 use Rattle.pooling.proofs.Fit.{fit}
 
 -- ---- a sequence turned round

@@ -1,6 +1,6 @@
 -- Each bin's place: there are as many places as bins, with the blocks of the fit; the place of a bin of any blocks; two places are the same or lie apart. Assumes nothing.
 use mathlib.Core.Path.{_≡_, refl, sym, _∙_, ap, subst}
-use mathlib.Core.List.{List, [], _∷_, _++_, map, append-nil, append-assoc}
+use mathlib.Core.List.{List, [], _∷_, _++_, map}
 use Prim.Native.Nat.{ℕ, _+_, _-_, _≤_, _<_}
 use native.Mathlib.Omega.{arith}
 use lib.ListN.{length, getD, replicate, length-append, length-replicate, List·getD-map, length-map}
@@ -22,19 +22,6 @@ places-from-length s [] = refl
 places-from-length s (b ∷ bs) =
     length-append (replicate (b .len) (record { start = s; block = b })) (placesFrom (s + b .len) bs)
     ∙ omega (arith, length-replicate {A = Place} (b .len) (record { start = s; block = b }), places-from-length (s + b .len) bs)
-
--- one block more, the last
-pub places-from-snoc : (s : ℕ) (bs : List Block) (b : Block)
-    → placesFrom s (bs ++ (b ∷ [])) ≡ placesFrom s bs ++ replicate (b .len) (record { start = s + binsIn bs; block = b })
-unfolding placesFrom binsIn
-places-from-snoc s [] b =
-    let e : s ≡ s + 0 = omega arith in
-    append-nil (replicate (b .len) (record { start = s; block = b })) ∙ ap (λ (n : ℕ). replicate {A = Place} (b .len) (record { start = n; block = b })) e
-places-from-snoc s (c ∷ bs) b =
-    let e : s + c .len + binsIn bs ≡ s + (c .len + binsIn bs) = omega arith in
-    ap (λ (z : List Place). replicate {A = Place} (c .len) (record { start = s; block = c }) ++ z)
-    (places-from-snoc (s + c .len) bs b ∙ ap (λ (n : ℕ). placesFrom (s + c .len) bs ++ replicate {A = Place} (b .len) (record { start = n; block = b })) e)
-    ∙ sym (append-assoc (replicate (c .len) (record { start = s; block = c })) (placesFrom (s + c .len) bs) (replicate (b .len) (record { start = s + (c .len + binsIn bs); block = b })))
 
 places-from-blocks : (s : ℕ) (bs : List Block) → map (λ (p : Place). p .block) (placesFrom s bs) ≡ spread bs
 unfolding placesFrom

@@ -1,17 +1,18 @@
--- The stack of blocks in two arrays: its top, a store on top of it, one more bin, and bounds on what it holds. Assumes nothing.
+-- The stack of blocks in two arrays: its top, a store on top of it, a bin more, and bounds on what it holds. Assumes nothing.
 use mathlib.Core.Path.{_≡_, refl, sym, _∙_, ap}
 use mathlib.Core.Bool.{Bool, true, false}
-use mathlib.Core.List.{List, [], _∷_, _++_}
+use mathlib.Core.List.{List, _∷_}
 use Prim.Native.Nat.{ℕ, zero, suc, _+_, _-_, _≤_, _<_}
 use native.Mathlib.Omega.{arith}
 use native.Mathlib.Numerals.{add-one}
-use lib.ListN.{length, getD, set, take}
-use lib.Seq.{take-suc, getD-set-same, getD-set-other, length-take-le}
+use lib.ListN.{length, getD, set, drop, length-drop}
+use lib.Seq.{drop-cons, getD-set-same, getD-set-other}
 use Rattle.lists.specs.Lists.{total}
-use Rattle.lists.proofs.Cases.{by-cond}
-use Rattle.lists.proofs.Sums.{total-at}
-use Rattle.pooling.specs.Blocks.{Block, Direction, stepsTo, merged, push, pushAll}
-use Rattle.pooling.specs.Stack.{stackOf, sumIn, binsIn}
+use Rattle.lists.proofs.Sums.{total-split}
+use Rattle.pooling.specs.Blocks.{Block, Direction, stepsTo, merged, lead, blocks}
+use Rattle.pooling.specs.Stack.{stackOf, sumIn, binsIn, HeldFrom}
+use Rattle.pooling.proofs.Cuts.{cut-sum, cut-bins, cut-few}
+use Rattle.pooling.proofs.Laws.{blocks-cut}
 
 -- ---- the stack in the arrays
 pub stack-length : (ss ls : List ℕ) (n : ℕ) → length (stackOf ss ls n) ≡ n
@@ -57,86 +58,37 @@ stack-store ss ls n s l h k =
     let g : stackOf (set ss n s) (set ls n l) n ≡ stackOf ss ls n = stack-below ss ls n s l n (omega arith) in
     ap (λ (m : ℕ). stackOf (set ss n s) (set ls n l) m) (add-one n) ∙ (λ i. record { sum = e i; len = f i } ∷ g i)
 
--- ---- a push onto the stack: onto none, onto a top from which the step is strict, and into a top from which it is not
-pub push-none : (w : Direction) (b : Block) (ss ls : List ℕ) (n : ℕ) → n ≤ 0 → push w b (stackOf ss ls n) ≡ b ∷ stackOf ss ls n
-unfolding push stackOf
-push-none w b ss ls zero h = refl
-push-none w b ss ls (suc n) h = absurd (omega arith)
+-- ---- a block in front of the stack: of none, of a top to which the step is strict, and of a top to which it is not
+pub lead-none : (w : Direction) (b : Block) (ss ls : List ℕ) (n : ℕ) → n ≤ 0 → lead w b (stackOf ss ls n) ≡ b ∷ stackOf ss ls n
+unfolding lead stackOf
+lead-none w b ss ls zero h = refl
+lead-none w b ss ls (suc n) h = absurd (omega arith)
 
-pub push-strict : (w : Direction) (b : Block) (ss ls : List ℕ) (n : ℕ) (t : Bool) → 0 < n → t ≡ stepsTo w (blockAt ss ls (n - 1)) b → t ≡ true
-    → push w b (stackOf ss ls n) ≡ b ∷ stackOf ss ls n
-unfolding push
-push-strict w b ss ls n t h e g = rw (stack-top ss ls n h) (rw (← e, g))
+pub lead-strict : (w : Direction) (b : Block) (ss ls : List ℕ) (n : ℕ) (t : Bool) → 0 < n → t ≡ stepsTo w b (blockAt ss ls (n - 1)) → t ≡ true
+    → lead w b (stackOf ss ls n) ≡ b ∷ stackOf ss ls n
+unfolding lead
+lead-strict w b ss ls n t h e g = rw (stack-top ss ls n h) (rw (← e, g))
 
-pub push-merged : (w : Direction) (b : Block) (ss ls : List ℕ) (n : ℕ) (t : Bool) (st : List Block) → 0 < n → t ≡ stepsTo w (blockAt ss ls (n - 1)) b → t ≡ false
-    → push w b (stackOf ss ls n) ≡ st → push w (merged (blockAt ss ls (n - 1)) b) (stackOf ss ls (n - 1)) ≡ st
-unfolding push
-push-merged w b ss ls n t st h e g p = rw (← e, g) at (rw (stack-top ss ls n h) at p)
+pub lead-merged : (w : Direction) (b : Block) (ss ls : List ℕ) (n : ℕ) (t : Bool) (st : List Block) → 0 < n → t ≡ stepsTo w b (blockAt ss ls (n - 1)) → t ≡ false
+    → lead w b (stackOf ss ls n) ≡ st → lead w (merged b (blockAt ss ls (n - 1))) (stackOf ss ls (n - 1)) ≡ st
+unfolding lead
+lead-merged w b ss ls n t st h e g p = rw (← e, g) at (rw (stack-top ss ls n h) at p)
 
--- ---- a bin more
-push-all-snoc : (w : Direction) (xs : List ℕ) (x : ℕ) (st : List Block) → pushAll w (xs ++ (x ∷ [])) st ≡ push w (record { sum = x; len = 1 }) (pushAll w xs st)
-unfolding pushAll
-push-all-snoc w [] x st = refl
-push-all-snoc w (y ∷ xs) x st = push-all-snoc w xs x (push w (record { sum = y; len = 1 }) st)
+-- ---- the next lower bin, bin i: the blocks of the bins behind it are held
+module _ (w : Direction) (h : List ℕ) (i : ℕ) (ss ls : List ℕ) (n : ℕ) (within : i < length h) (held : HeldFrom w h (i + 1) ss ls n) where
+  with-next : drop i h ≡ getD h i 0 ∷ drop (i + 1) h
+  with-next = drop-cons h i 0 within ∙ ap (λ (m : ℕ). getD h i 0 ∷ drop m h) (sym (add-one i))
 
-pub push-all-more : (w : Direction) (h : List ℕ) (i : ℕ) (st st′ : List Block) → i < length h
-    → st ≡ pushAll w (take i h) [] → st′ ≡ push w (record { sum = getD h i 0; len = 1 }) st → st′ ≡ pushAll w (take (i + 1) h) []
-push-all-more w h i st st′ k e p =
-    p ∙ ap (λ (z : List Block). push w (record { sum = getD h i 0; len = 1 }) z) e
-    ∙ sym (ap (λ (m : ℕ). pushAll w (take m h) []) (add-one i) ∙ ap (λ (z : List ℕ). pushAll w z []) (take-suc h i 0 k) ∙ push-all-snoc w (take i h) (getD h i 0) [])
+  pub held-more : (ss′ ls′ : List ℕ) (r : ℕ) → stackOf ss′ ls′ r ≡ lead w (record { sum = getD h i 0; len = 1 }) (stackOf ss ls n) → HeldFrom w h i ss′ ls′ r
+  unfolding blocks
+  held-more ss′ ls′ r p = p ∙ ap (lead w (record { sum = getD h i 0; len = 1 })) held ∙ ap (blocks w) (sym with-next)
 
--- ---- what the stack holds
-push-sum : (w : Direction) (b : Block) (st : List Block) → sumIn (push w b st) ≡ b .sum + sumIn st
-unfolding push sumIn
-push-sum w b [] = refl
-push-sum w b (a ∷ st) =
-    by-cond (λ (z : List Block). sumIn z ≡ b .sum + (a .sum + sumIn st)) (stepsTo w a b) (b ∷ a ∷ st) (push w (merged a b) st) (λ e. refl) (λ e. omega (arith, push-sum w (merged a b) st))
-
-push-bins : (w : Direction) (b : Block) (st : List Block) → binsIn (push w b st) ≡ b .len + binsIn st
-unfolding push binsIn
-push-bins w b [] = refl
-push-bins w b (a ∷ st) =
-    by-cond (λ (z : List Block). binsIn z ≡ b .len + (a .len + binsIn st)) (stepsTo w a b) (b ∷ a ∷ st) (push w (merged a b) st) (λ e. refl) (λ e. omega (arith, push-bins w (merged a b) st))
-
-push-length : (w : Direction) (b : Block) (st : List Block) → length (push w b st) ≤ suc (length st)
-unfolding push
-push-length w b [] = omega arith
-push-length w b (a ∷ st) =
-    by-cond (λ (z : List Block). length z ≤ suc (suc (length st))) (stepsTo w a b) (b ∷ a ∷ st) (push w (merged a b) st) (λ e. omega arith) (λ e. omega (arith, push-length w (merged a b) st))
-
-push-all-sum : (w : Direction) (xs : List ℕ) (st : List Block) → sumIn (pushAll w xs st) ≡ total xs + sumIn st
-unfolding pushAll
-push-all-sum w [] st = omega arith
-push-all-sum w (x ∷ xs) st = omega (arith, push-all-sum w xs (push w (record { sum = x; len = 1 }) st), push-sum w (record { sum = x; len = 1 }) st)
-
-push-all-bins : (w : Direction) (xs : List ℕ) (st : List Block) → binsIn (pushAll w xs st) ≡ length xs + binsIn st
-unfolding pushAll
-push-all-bins w [] st = omega arith
-push-all-bins w (x ∷ xs) st = omega (arith, push-all-bins w xs (push w (record { sum = x; len = 1 }) st), push-bins w (record { sum = x; len = 1 }) st)
-
-push-all-length : (w : Direction) (xs : List ℕ) (st : List Block) → length (pushAll w xs st) ≤ length xs + length st
-unfolding pushAll
-push-all-length w [] st = omega arith
-push-all-length w (x ∷ xs) st = omega (arith, push-all-length w xs (push w (record { sum = x; len = 1 }) st), push-length w (record { sum = x; len = 1 }) st)
-
--- the blocks of all bins, from an empty stack
-module _ (w : Direction) (h : List ℕ) where
-  pub pooled-sum : sumIn (pushAll w h []) ≡ total h
-  unfolding sumIn
-  pooled-sum = omega (arith, push-all-sum w h [])
-
-  pub pooled-bins : binsIn (pushAll w h []) ≡ length h
-  unfolding binsIn
-  pooled-bins = omega (arith, push-all-bins w h [])
-
-  pub pooled-length : length (pushAll w h []) ≤ length h
-  pooled-length = omega (arith, push-all-length w h [])
-
--- what a push of bin i asks, when the stack is that of the bins before it
-pub push-room : (w : Direction) (h : List ℕ) (i : ℕ) (ss ls : List ℕ) (n : ℕ) → i < length h → stackOf ss ls n ≡ pushAll w (take i h) []
-    → (n ≤ i) × (sumIn (stackOf ss ls n) + getD h i 0 ≤ total h) × (binsIn (stackOf ss ls n) ≡ i)
-push-room w h i ss ls n k e = (
-  omega (arith, stack-length ss ls n, ap length e, pooled-length w (take i h), length-take-le i h (omega arith)),
-  omega (arith, ap sumIn e, pooled-sum w (take i h), total-at h i k),
-  omega (arith, ap binsIn e, pooled-bins w (take i h), length-take-le i h (omega arith)),
-)
+  -- there is room for it: a place in the arrays, and what it adds stays within the bins and counts of the stretch
+  pub held-room : (n + i < length h) × (sumIn (stackOf ss ls n) + getD h i 0 ≤ total h) × (binsIn (stackOf ss ls n) + i < length h)
+  held-room =
+      let c = blocks-cut w (drop (i + 1) h) in
+      let d = length-drop (i + 1) h in (
+        omega (arith, stack-length ss ls n, ap length held, cut-few c),
+        omega (arith, ap sumIn held, cut-sum c, ap total with-next, total-split i h),
+        omega (arith, ap binsIn held, cut-bins c),
+      )

@@ -6,11 +6,11 @@ use native.Mathlib.Nat.{mul-lt-mul-of-pos-right, mul-mod-left, eq-of-mul-eq-mul-
 use native.Mathlib.Omega.{arith}
 use lib.IntN.{natAbs, ℤ-discrete}
 use lib.ListN.{length, replicate}
-use Rattle.pooling.specs.Blocks.{Block, Direction, increasing, Strict, StrictFrom}
-use Rattle.pooling.proofs.Leading.{Full, blocksFromLast, strict-tail, block-eq}
+use Rattle.pooling.specs.Blocks.{Block, Direction, increasing, blocks, Strict, StrictFrom}
+use Rattle.pooling.proofs.Basics.{Full, strict-tail, block-eq}
 use Rattle.pooling.specs.Fraction.{Fraction, _≈_, Proper, CommonDenominator, error}
 use Rattle.pooling.specs.Best.{mean, at, Best, DenominatorExists}
-use Rattle.pooling.proofs.Heavy.{Rises, forms-cut, last-rises}
+use Rattle.pooling.proofs.Heavy.{Rises, forms-cut, blocks-rise}
 use Rattle.pooling.proofs.Cuts.{cut-full}
 use Rattle.pooling.proofs.Fit.{fit, rises-best}
 
@@ -123,12 +123,12 @@ blocks-same (b ∷ bs) (c ∷ cs) wb wc rb rc s =
     cc
 
 -- whatever blocks give the best sequence and rise strictly are the pooled ones
-pub last-unique : (h : List ℕ) (cs : List Block) → Full cs → Strict increasing cs → Best increasing h (fit cs) → cs ≡ blocksFromLast increasing h
-last-unique h cs w r k =
-    let p = last-rises h in
-    let best = rises-best h (blocksFromLast increasing h) p in
-    blocks-same cs (blocksFromLast increasing h) w (cut-full (forms-cut (p .cut))) r (p .rising)
-    (same-at (fit cs) (fit (blocksFromLast increasing h)) (k .sameLength ∙ sym (best .sameLength)) (λ i hi. values-unique increasing h (fit cs) (fit (blocksFromLast increasing h)) k best i (omega (arith, k .sameLength))))
+pub increasing-unique : (h : List ℕ) (cs : List Block) → Full cs → Strict increasing cs → Best increasing h (fit cs) → cs ≡ blocks increasing h
+increasing-unique h cs w r k =
+    let p = blocks-rise h in
+    let best = rises-best h (blocks increasing h) p in
+    blocks-same cs (blocks increasing h) w (cut-full (forms-cut (p .cut))) r (p .rising)
+    (same-at (fit cs) (fit (blocks increasing h)) (k .sameLength ∙ sym (best .sameLength)) (λ i hi. values-unique increasing h (fit cs) (fit (blocks increasing h)) k best i (omega (arith, k .sameLength))))
 
-pub rises-unique : (h : List ℕ) (cs : List Block) → Rises h cs → cs ≡ blocksFromLast increasing h
-rises-unique h cs k = last-unique h cs (cut-full (forms-cut (k .cut))) (k .rising) (rises-best h cs k)
+pub rises-unique : (h : List ℕ) (cs : List Block) → Rises h cs → cs ≡ blocks increasing h
+rises-unique h cs k = increasing-unique h cs (cut-full (forms-cut (k .cut))) (k .rising) (rises-best h cs k)

@@ -3,7 +3,7 @@
 --   places             each bin's block with the number of the block's first bin
 --   stepsTo, StepsTo   a strict step in the direction of the fit, as a test and as a statement; Strict: at every step
 use mathlib.Core.Bool.{Bool, true, false, cond}
-use mathlib.Core.List.{List, [], _∷_, _++_, reverse}
+use mathlib.Core.List.{List, [], _∷_, _++_}
 use Prim.Native.Nat.{ℕ, _+_, _*_, _<_}
 use lib.Dec.{ltb}
 use lib.ListN.{replicate}
@@ -39,19 +39,15 @@ StepsTo decreasing a b = Below b a
 abbrev pub merged : Block → Block → Block
 merged a b = record { sum = a .sum + b .sum; len = a .len + b .len }
 
--- P2: a block is pushed onto a stack of blocks. While the step from the top block to it is not strict, the two become one
-unfoldable pub push : Direction → Block → List Block → List Block
-push w b [] = b ∷ []
-push w b (a ∷ stack) = cond (stepsTo w a b) (b ∷ a ∷ stack) (push w (merged a b) stack)
+-- P2: a block comes in front of those behind it. While the step from it to the first of them is not strict, the two become one
+unfoldable pub lead : Direction → Block → List Block → List Block
+lead w b [] = b ∷ []
+lead w b (c ∷ bs) = cond (stepsTo w b c) (b ∷ c ∷ bs) (lead w (merged b c) bs)
 
--- P2: bin by bin, each as a block of its own
-unfoldable pub pushAll : Direction → List ℕ → List Block → List Block
-pushAll w [] stack = stack
-pushAll w (h ∷ hs) stack = pushAll w hs (push w (record { sum = h; len = 1 }) stack)
-
--- the blocks of the bins h, in the order of the bins
+-- P2: the blocks of the bins h, in the order of the bins, which are taken from the last to the first, each as a block of its own
 unfoldable pub blocks : Direction → List ℕ → List Block
-blocks w h = reverse (pushAll w h [])
+blocks w [] = []
+blocks w (x ∷ h) = lead w (record { sum = x; len = 1 }) (blocks w h)
 
 -- each bin's block
 abbrev pub spread : List Block → List Block

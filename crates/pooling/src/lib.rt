@@ -1,13 +1,14 @@
 // Pooling: the blocks of a monotone fit, and each bin's place in them.
 ghost use mathlib.Core.Path.{_≡_};
-ghost use mathlib.Core.List.{[], _++_, map};
+ghost use mathlib.Core.List.{_++_, map};
 ghost use Prim.Native.Nat.{_+_, _-_, _<_, _≤_};
-ghost use lib.ListN.{length, take, replicate};
+ghost use lib.ListN.{length, take, drop, replicate};
 ghost use Rattle.lists.specs.Lists.{over};
-ghost use Rattle.pooling.specs.Blocks.{Block, Place, direction, stepsTo, pushAll, places};
+ghost use Rattle.pooling.specs.Blocks.{Block, Place, direction, stepsTo, blocks, places};
 ghost use Rattle.pooling.specs.Blocks as Blocks;
 ghost use Rattle.pooling.specs.Limits.{mostBins, mostCounts, Small};
-ghost use Rattle.pooling.specs.Stack.{stackOf, sumIn, binsIn};
+ghost use Rattle.pooling.specs.Best.{Pooled};
+ghost use Rattle.pooling.specs.Stack.{stackOf, sumIn, binsIn, HeldFrom};
 
 // The most bins of a stretch: those of the largest ring, opened at its lowest bin, which is then at both ends.
 pub const MOST_BINS: usize = 257;
@@ -32,14 +33,14 @@ fn steps_to(rising: bool, s: u32, l: u32, t: u32, m: u32) -> bool
     if rising { s * m < t * l } else { t * l < s * m }
 }
 
-// Pushes one bin onto the stack of blocks in the first n places. Returns how many blocks there are then.
-fn push(sums: &mut [u32], lens: &mut [u32], n: usize, rising: bool, x: u32) -> usize
+// Puts a bin in front of the blocks in the first n places, the foremost of which is on top. Returns how many blocks there are then.
+fn lead(sums: &mut [u32], lens: &mut [u32], n: usize, rising: bool, x: u32) -> usize
     requires { ⌜ (n < length (now sums))
         × (n < length (now lens))
         × (sumIn (stackOf (now sums) (now lens) n) + x ≤ mostCounts)
         × (binsIn (stackOf (now sums) (now lens) n) < mostBins) ⌝ }
     ensures { λ r. ⌜ stackOf (now (sums .exit)) (now (lens .exit)) r
-        ≡ Blocks.push (direction rising) (record { sum = x; len = 1 }) (stackOf (now (sums .entry)) (now (lens .entry)) n) ⌝ }
+        ≡ Blocks.lead (direction rising) (record { sum = x; len = 1 }) (stackOf (now (sums .entry)) (now (lens .entry)) n) ⌝ }
 {
     let mut top = n;
     let mut s = x;
@@ -48,11 +49,11 @@ fn push(sums: &mut [u32], lens: &mut [u32], n: usize, rising: bool, x: u32) -> u
         let k = top - 1;
         let a = sums[k];
         let b = lens[k];
-        if steps_to(rising, a, b, s, l) {
+        if steps_to(rising, s, l, a, b) {
             break;
         }
-        s = a + s;
-        l = b + l;
+        s = s + a;
+        l = l + b;
         top = k;
     }
     sums[top] = s;
@@ -60,17 +61,35 @@ fn push(sums: &mut [u32], lens: &mut [u32], n: usize, rising: bool, x: u32) -> u
     top + 1
 }
 
-// Makes the stack of the blocks of all bins. Returns how many blocks there are.
+// A step: takes bin i, the next below the bins taken so far. Returns how many blocks there are then.
+fn take_bin(
+    h: &[u32],
+    rising: bool,
+    i: usize,
+    sums: &mut [u32],
+    lens: &mut [u32],
+    n: usize,
+) -> usize
+    requires { ⌜ Small (now h) ⌝ }
+    requires { ⌜ (length (now h) ≤ length (now sums)) × (length (now h) ≤ length (now lens)) ⌝ }
+    requires { ⌜ (i < length (now h)) × HeldFrom (direction rising) (now h) (i + 1) (now sums) (now lens) n ⌝ }
+    ensures { λ r. ⌜ HeldFrom (direction rising) (now (h .entry)) i (now (sums .exit)) (now (lens .exit)) r
+        × Pooled (direction rising) (drop i (now (h .entry))) ⌝ }
+{
+    lead(sums, lens, n, rising, h[i])
+}
+
+// Takes all bins, from the last to the first. Returns how many blocks there are.
 fn pool(h: &[u32], rising: bool, sums: &mut [u32], lens: &mut [u32]) -> usize
     requires { ⌜ Small (now h) ⌝ }
     requires { ⌜ (length (now h) ≤ length (now sums)) × (length (now h) ≤ length (now lens)) ⌝ }
-    ensures { λ r. ⌜ stackOf (now (sums .exit)) (now (lens .exit)) r ≡ pushAll (direction rising) (now (h .entry)) [] ⌝ }
+    ensures { λ r. ⌜ stackOf (now (sums .exit)) (now (lens .exit)) r ≡ blocks (direction rising) (now (h .entry)) ⌝ }
 {
     let mut n = 0;
-    let mut i = 0;
-    while i < h.len() {
-        n = push(sums, lens, n, rising, h[i]);
-        i += 1;
+    let mut i = h.len();
+    while 0 < i {
+        i -= 1;
+        n = take_bin(h, rising, i, sums, lens, n);
     }
     n
 }
@@ -97,10 +116,10 @@ pub fn fit_places(h: &[u32], rising: bool, starts: &mut [u32], sums: &mut [u32],
 {
     let mut block_sums = [0u32; MOST_BINS];
     let mut block_lens = [0u32; MOST_BINS];
-    let n = pool(h, rising, &mut block_sums, &mut block_lens);
-    let mut k = 0;
+    let mut k = pool(h, rising, &mut block_sums, &mut block_lens);
     let mut from: usize = 0;
-    while k < n {
+    while 0 < k {
+        k -= 1;
         let s = block_sums[k];
         let l = block_lens[k];
         let to = from + l as usize;
@@ -108,6 +127,5 @@ pub fn fit_places(h: &[u32], rising: bool, starts: &mut [u32], sums: &mut [u32],
         fill(sums, from, to, s);
         fill(lens, from, to, l);
         from = to;
-        k += 1;
     }
 }

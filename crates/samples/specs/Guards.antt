@@ -28,10 +28,12 @@ guards =
     -- equal means share a block
     ∷ fit increasing (2 ∷ 2 ∷ []) (block 4 2 ∷ block 4 2 ∷ [])
     ∷ fit decreasing (2 ∷ 2 ∷ []) (block 4 2 ∷ block 4 2 ∷ [])
-    -- after a merge the fit looks further back
+    -- after a merge the fit looks further: a bin merges with two blocks, whether bins are taken from the last or from the first
+    ∷ fit increasing (4 ∷ 1 ∷ 2 ∷ 3 ∷ []) (block 7 3 ∷ block 7 3 ∷ block 7 3 ∷ block 3 1 ∷ [])
     ∷ fit increasing (1 ∷ 2 ∷ 3 ∷ 0 ∷ []) (block 1 1 ∷ block 5 3 ∷ block 5 3 ∷ block 5 3 ∷ [])
-    -- decreasing: the same from the other end
+    -- decreasing: the mirror images
     ∷ fit decreasing (0 ∷ 3 ∷ 2 ∷ 1 ∷ []) (block 5 3 ∷ block 5 3 ∷ block 5 3 ∷ block 1 1 ∷ [])
+    ∷ fit decreasing (3 ∷ 2 ∷ 1 ∷ 4 ∷ []) (block 3 1 ∷ block 7 3 ∷ block 7 3 ∷ block 7 3 ∷ [])
     -- in one block B is its length, not its length squared
     ∷ mass increasing (4 ∷ 2 ∷ 1 ∷ []) 0 1 14 3
     -- across blocks B is the product of the two lengths, not their least common multiple

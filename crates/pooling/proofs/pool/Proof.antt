@@ -1,56 +1,45 @@
--- `pool` makes the stack of all bins. The loop's invariant: the stack is that of the bins passed. Assumes nothing.
-use mathlib.Core.Path.{_≡_, refl, _∙_, ap}
-use mathlib.Core.List.{List, []}
-use Prim.Native.Nat.{ℕ, _-_, _≤_}
+-- `pool` makes the blocks of all bins. The loop's invariant: those of the bins from bin i on are held. Assumes nothing.
+use mathlib.Core.Path.{_≡_, refl, sym, _∙_, ap}
+use Prim.Native.Nat.{_+_, _-_, _≤_}
 use borrow.Author.Needs.{needs}
 use native.Mathlib.Omega.{arith}
-use lib.ListN.{length, take}
-use lib.Seq.{take-all}
-use Rattle.pooling.specs.Blocks.{direction, pushAll}
-use Rattle.pooling.specs.Stack.{stackOf}
-use Rattle.pooling.proofs.Stacking.{push-all-more, push-room}
+use lib.ListN.{length}
+use lib.Seq.{drop-length}
+use Rattle.pooling.specs.Blocks.{direction, blocks}
+use Rattle.pooling.specs.Stack.{stackOf, HeldFrom}
 use Rattle.pooling.proofs.pool.Statement.{statement}
 use Rattle.pooling.proofs.pool.Tie as tie
 
 abbrev Inv-loop : tie.InvT-loop
-Inv-loop h rising sums₀ lens₀ n₀ i₀ sums lens n i = (i ≤ length h) × (length sums ≡ length sums₀) × (length lens ≡ length lens₀) × (stackOf sums lens n ≡ pushAll (direction rising) (take i h) [])
+Inv-loop h rising sums₀ lens₀ n₀ i₀ sums lens n i = (i ≤ length h) × (length sums ≡ length sums₀) × (length lens ≡ length lens₀) × HeldFrom (direction rising) h i sums lens n
 
 abbrev μ-loop : tie.MeasureT-loop
-μ-loop h rising sums₀ lens₀ n₀ i₀ sums lens n i = length h - i
+μ-loop h rising sums₀ lens₀ n₀ i₀ sums lens n i = i
 
 loop-holds : tie.Need-loop-holds Inv-loop μ-loop
-unfolding stackOf pushAll
-loop-holds c = (omega arith, refl, refl, refl)
+unfolding stackOf blocks
+loop-holds c =
+    let a = c .before .before .before .args in
+    (omega arith, refl, refl, ap (blocks (direction (a .rising))) (sym (drop-length (a .h .now))))
 
-mul-push : tie.Need-mul-push Inv-loop μ-loop
-mul-push c = search needs
+sub-i : tie.Need-sub-i Inv-loop μ-loop
+sub-i c = search needs
 
-shared-slice-read-push : tie.Need-shared-slice-read-push Inv-loop μ-loop
-shared-slice-read-push c = search needs
-
-push-requires : tie.Need-push-requires Inv-loop μ-loop
-push-requires c κs =
-    let a = c .before .before .before .before .before .before .before .before .args in
-    let v = c .before .before .before .before .loop in
-    let room = push-room (direction (a .rising)) (a .h .now) (v .i) (v .sums) (v .lens) (v .n) (c .before .before .before .loop-test .taken) (v .inv .3) in
-    (omega arith, omega arith, omega arith, omega arith)
-
-add-i : tie.Need-add-i Inv-loop μ-loop
-add-i c = search needs
+take-bin-requires : tie.Need-take-bin-requires Inv-loop μ-loop
+take-bin-requires c κs =
+    let s = c .before .before .before .before .before .before .before in
+    let v = c .before .before .before .loop in
+    let z : v .i ≡ v .i - 1 + 1 = omega arith in
+    (s .pre .0, ((omega arith, omega arith), (omega arith, rw z at (v .inv .3))))
 
 loop-less : tie.Need-loop-less Inv-loop μ-loop
 loop-less c = search needs
 
 loop-again : tie.Need-loop-again Inv-loop μ-loop
 loop-again c =
-    let a = c .before .before .before .before .before .before .before .before .before .before .before .before .before .args in
-    let v = c .before .before .before .before .before .before .before .before .before .loop in
-    let p = c .before .before .before .before .push in (
-      omega arith,
-      p .kept .0 ∙ v .inv .1,
-      p .kept .1 .0 ∙ v .inv .2,
-      push-all-more (direction (a .rising)) (a .h .now) (v .i) (stackOf (v .sums) (v .lens) (v .n)) (stackOf (p .last .0) (p .last .1 .0) (p .result)) (omega arith) (v .inv .3) (p .ensures),
-    )
+    let v = c .before .before .before .before .before .before .before .before .loop in
+    let p = c .before .before .before .before .take-bin in
+    (omega arith, p .kept .1 .1 .1 .0 ∙ v .inv .1, p .kept .1 .1 .1 .1 .0 ∙ v .inv .2, p .ensures .0)
 
 same-length : tie.Need-same-length Inv-loop μ-loop
 same-length c = search needs
@@ -60,22 +49,10 @@ same-length-2 c = search needs
 
 returns : tie.Need-returns Inv-loop μ-loop
 returns c =
-    let a = c .before .before .before .before .before .args in
-    c .before .loop .inv .3 ∙ ap (λ (z : List ℕ). pushAll (direction (a .rising)) z []) (take-all (c .before .loop .i) (a .h .now) (omega arith))
+    let z : c .before .loop .i ≡ 0 = omega arith in
+    rw z at (c .before .loop .inv .3)
 
 pub pool-spec : {M : Type 1} → statement M
 pool-spec =
     tie.close
-    (tie.spec
-    Inv-loop
-    μ-loop
-    loop-holds
-    mul-push
-    shared-slice-read-push
-    push-requires
-    add-i
-    loop-less
-    loop-again
-    same-length
-    same-length-2
-    returns)
+    (tie.spec Inv-loop μ-loop loop-holds sub-i take-bin-requires loop-less loop-again same-length same-length-2 returns)

@@ -1,29 +1,37 @@
--- `push` is the push of the definitions, in place. The loop's invariant: what is left to push, onto the first `top` blocks, makes the same stack. Assumes nothing.
+-- `lead` is that of the definitions, in place. The loop's invariant: the block so far, put in front of the first `top` blocks, makes the same blocks. Assumes nothing.
 use mathlib.Core.Path.{_≡_, refl, sym, _∙_}
 use mathlib.Core.Logic.{⊎-elim}
-use Prim.Native.Nat.{_+_, _≤_}
+use Prim.Native.Nat.{_+_, _<_, _≤_}
 use borrow.Author.Needs.{needs}
 use native.Mathlib.Omega.{arith}
 use lib.ListN.{length-set}
-use Rattle.pooling.specs.Blocks.{direction, push}
+use Rattle.pooling.specs.Blocks.{direction, lead}
 use Rattle.pooling.specs.Limits.{mostBins, mostCounts}
 use Rattle.pooling.specs.Stack.{stackOf, sumIn, binsIn}
-use Rattle.pooling.proofs.Stacking.{sum-top, bins-top, push-none, push-strict, push-merged, stack-store}
-use Rattle.pooling.proofs.push.Statement.{statement}
-use Rattle.pooling.proofs.push.Tie as tie
+use Rattle.pooling.proofs.Stacking.{sum-top, bins-top, lead-none, lead-strict, lead-merged, stack-store}
+use Rattle.pooling.proofs.lead.Statement.{statement}
+use Rattle.pooling.proofs.lead.Tie as tie
 
 abbrev Inv-loop : tie.InvT-loop
 Inv-loop sums lens n rising x top₀ s₀ l₀ top s l =
     (top ≤ n)
     × (sumIn (stackOf sums lens top) + s ≤ mostCounts)
     × (binsIn (stackOf sums lens top) + l ≤ mostBins)
-    × (push (direction rising) (record { sum = s; len = l }) (stackOf sums lens top) ≡ push (direction rising) (record { sum = x; len = 1 }) (stackOf sums lens n))
+    × (lead (direction rising) (record { sum = s; len = l }) (stackOf sums lens top) ≡ lead (direction rising) (record { sum = x; len = 1 }) (stackOf sums lens n))
 
 abbrev μ-loop : tie.MeasureT-loop
 μ-loop sums lens n rising x top₀ s₀ l₀ top s l = top
 
 loop-holds : tie.Need-loop-holds Inv-loop μ-loop
 loop-holds c = (omega arith, c .before .before .pre .2, omega arith, refl)
+
+-- the way from a turn to the call
+abbrev entry : tie.In-loop Inv-loop μ-loop → tie.Start Inv-loop μ-loop
+entry t = t .before .before .before .before
+
+-- a turn has a block on top to look at
+some : (t : tie.In-loop Inv-loop μ-loop) → 0 < t .before .loop .top
+some t = omega arith
 
 sub-k : tie.Need-sub-k Inv-loop μ-loop
 sub-k c = search needs
@@ -42,33 +50,36 @@ slice-read-b c = search needs
 
 steps-to-requires : tie.Need-steps-to-requires Inv-loop μ-loop
 steps-to-requires c κs =
-    let a = c .before .before .before .before .before .before .args in
-    let top = c .before .before .before .loop .top in
-    omega (arith, sum-top (a .sums .now) (a .lens .now) top (c .before .before .loop-test .taken), bins-top (a .sums .now) (a .lens .now) top (c .before .before .loop-test .taken))
+    let t = c .before .before in
+    let a = entry t .args in
+    let top = t .before .loop .top in
+    omega (arith, sum-top (a .sums .now) (a .lens .now) top (some t), bins-top (a .sums .now) (a .lens .now) top (some t))
 
 add-s : tie.Need-add-s Inv-loop μ-loop
 add-s c =
-    let a = c .before .before .before .before .before .before .before .before .args in
-    omega (arith, sum-top (a .sums .now) (a .lens .now) (c .before .before .before .before .before .loop .top) (c .before .before .before .before .loop-test .taken))
+    let t = c .before .before .before .before in
+    let a = entry t .args in
+    omega (arith, sum-top (a .sums .now) (a .lens .now) (t .before .loop .top) (some t))
 
 add-l : tie.Need-add-l Inv-loop μ-loop
 add-l c =
-    let a = c .before .before .before .before .before .before .before .before .args in
-    omega (arith, bins-top (a .sums .now) (a .lens .now) (c .before .before .before .before .before .loop .top) (c .before .before .before .before .loop-test .taken))
+    let t = c .before .before .before .before in
+    let a = entry t .args in
+    omega (arith, bins-top (a .sums .now) (a .lens .now) (t .before .loop .top) (some t))
 
 loop-less : tie.Need-loop-less Inv-loop μ-loop
 loop-less c = search needs
 
 loop-again : tie.Need-loop-again Inv-loop μ-loop
 loop-again c =
-    let a = c .before .before .before .before .before .before .before .before .args in
-    let v = c .before .before .before .before .before .loop in
-    let some = c .before .before .before .before .loop-test .taken in (
+    let t = c .before .before .before .before in
+    let a = entry t .args in
+    let v = t .before .loop in (
       omega arith,
-      omega (arith, sum-top (a .sums .now) (a .lens .now) (v .top) some),
-      omega (arith, bins-top (a .sums .now) (a .lens .now) (v .top) some),
-      push-merged (direction (a .rising)) (record { sum = v .s; len = v .l }) (a .sums .now) (a .lens .now) (v .top) (c .before .steps-to .result) (push (direction (a .rising)) (record { sum = a .x; len = 1 }) (stackOf (a .sums .now) (a .lens .now) (a .n)))
-          some (c .before .steps-to .ensures) (c .if1 .left) (v .inv .3),
+      omega (arith, sum-top (a .sums .now) (a .lens .now) (v .top) (some t)),
+      omega (arith, bins-top (a .sums .now) (a .lens .now) (v .top) (some t)),
+      lead-merged (direction (a .rising)) (record { sum = v .s; len = v .l }) (a .sums .now) (a .lens .now) (v .top) (c .before .steps-to .result) (lead (direction (a .rising)) (record { sum = a .x; len = 1 }) (stackOf (a .sums .now) (a .lens .now) (a .n)))
+          (some t) (c .before .steps-to .ensures) (c .if1 .left) (v .inv .3),
     )
 
 mul-sums : tie.Need-mul-sums Inv-loop μ-loop
@@ -98,13 +109,13 @@ returns c =
     let v = c .before .loop in
     stack-store (a .sums .now) (a .lens .now) (v .top) (v .s) (v .l) (omega arith) (omega arith)
     ∙ sym (⊎-elim
-    (λ w. push-none (direction (a .rising)) (record { sum = v .s; len = v .l }) (a .sums .now) (a .lens .now) (v .top) (w .left))
-    (λ w. push-strict (direction (a .rising)) (record { sum = v .s; len = v .l }) (a .sums .now) (a .lens .now) (v .top) (w .3 .result) (w .0 .taken) (w .3 .ensures) (w .4 .taken))
+    (λ w. lead-none (direction (a .rising)) (record { sum = v .s; len = v .l }) (a .sums .now) (a .lens .now) (v .top) (omega (arith, w .left)))
+    (λ w. lead-strict (direction (a .rising)) (record { sum = v .s; len = v .l }) (a .sums .now) (a .lens .now) (v .top) (w .3 .result) (omega (arith, w .0 .taken)) (w .3 .ensures) (w .4 .taken))
     (c .loop-test .came))
     ∙ v .inv .3
 
-pub push-spec : {M : Type 1} → statement M
-push-spec =
+pub lead-spec : {M : Type 1} → statement M
+lead-spec =
     tie.close
     (tie.spec
     Inv-loop

@@ -1,0 +1,41 @@
+-- `take_bin` meets its contract: the bin comes in front of the blocks of the bins behind it. Assumes nothing.
+use borrow.Author.Needs.{needs}
+use native.Mathlib.Omega.{arith}
+use lib.ListN.{drop}
+use Rattle.pooling.specs.Blocks.{direction}
+use Rattle.pooling.proofs.Always.{always-pooled}
+use Rattle.pooling.proofs.Stacking.{held-more, held-room}
+use Rattle.pooling.proofs.take_bin.Statement.{statement}
+use Rattle.pooling.proofs.take_bin.Tie as tie
+
+mul-lead : tie.Need-mul-lead
+mul-lead c = search needs
+
+shared-slice-read-lead : tie.Need-shared-slice-read-lead
+shared-slice-read-lead c = search needs
+
+lead-requires : tie.Need-lead-requires
+lead-requires c κs =
+    let s = c .before .before .before .before .before .before in
+    let room = held-room (direction (s .args .rising)) (s .args .h .now) (s .args .i) (s .args .sums .now) (s .args .lens .now) (s .args .n) (s .pre .1 .1 .0) (s .pre .1 .1 .1) in
+    (omega arith, omega arith, omega (arith, s .pre .0 .counts), omega (arith, s .pre .0 .bins))
+
+same-length : tie.Need-same-length
+same-length c = search needs
+
+same-length-2 : tie.Need-same-length-2
+same-length-2 c = search needs
+
+returns : tie.Need-returns
+returns c =
+    let s = c .before .before .before .before .before .before .before .before .before .before .before in
+    let r = c .before .before .before .before .lead in
+    let w = direction (s .args .rising) in (
+      held-more w (s .args .h .now) (s .args .i) (s .args .sums .now) (s .args .lens .now) (s .args .n) (s .pre .1 .1 .0) (s .pre .1 .1 .1) (r .last .0) (r .last .1 .0) (r .result) (r .ensures),
+      always-pooled w (drop (s .args .i) (s .args .h .now)),
+    )
+
+pub take-bin-spec : {M : Type 1} → statement M
+take-bin-spec =
+    tie.close
+    (tie.spec mul-lead shared-slice-read-lead lead-requires same-length same-length-2 returns)
