@@ -3,8 +3,8 @@
 //! the rules, clear rather than fast, and deliberately by other means than the engine, so that a slip in one is unlikely
 //! to occur in the other as well.
 //!
-//! One module for each section of the rules. To run its own tests: `cargo test -p reference` in
-//! `tests/`.
+//! One module for each section of the rules, and `steps` for pooling that goes from bin to bin. To run its own tests:
+//! `cargo test -p reference` in `tests/`.
 
 pub mod calls;
 pub mod cards;
@@ -13,5 +13,6 @@ pub mod logarithm;
 pub mod measures;
 pub mod pooling;
 pub mod rings;
+pub mod steps;
 pub mod swatches;
 pub mod test;

@@ -16,7 +16,8 @@ impl Block {
     }
 }
 
-/// The blocks of the fit, from left to right.
+/// The blocks of the fit, from left to right. The string knows no order of bins. It is kept for the comparison with the
+/// engine although `steps` gives the same blocks: two different ways are a better check than one way done twice.
 pub fn blocks(counts: &[u64], rising: bool) -> Vec<Block> {
     if rising {
         rising_blocks(counts)

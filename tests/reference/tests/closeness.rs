@@ -1,10 +1,14 @@
 //! Verdicts, modes and humps at a closeness below 0, where the bar of a stretch can be 0 or less.
 
+#[path = "common/scatter.rs"]
+mod scatter;
+
 use reference::calls::{LEAST_CLOSENESS, MOST_CLOSENESS};
 use reference::lines::{first_segments, join, modes, Segment};
 use reference::logarithm::{lg, UNIT};
 use reference::rings::opened;
 use reference::test::{bar, has_step_against, verdict, Verdict};
+use scatter::Scatter;
 
 const BIT: i64 = UNIT as i64;
 
@@ -150,21 +154,6 @@ fn a_line_of_45_bins_can_lose_its_first_segments() {
         let counts: Vec<u64> = (0..bins).map(|bin| 1_001 - bin % 2).collect();
         assert_eq!(first_segments(&counts).len(), first);
         assert_eq!(modes(&counts, LEAST_CLOSENESS).len(), left);
-    }
-}
-
-/// Counts without a pattern, the same ones at every run.
-struct Scatter(u64);
-
-impl Scatter {
-    fn below(&mut self, end: u64) -> u64 {
-        self.0 = self.0.wrapping_mul(6_364_136_223_846_793_005);
-        self.0 = self.0.wrapping_add(1_442_695_040_888_963_407);
-        (self.0 >> 33) % end
-    }
-
-    fn line(&mut self, bins: usize, least: u64, range: u64) -> Vec<u64> {
-        (0..bins).map(|_| least + self.below(range)).collect()
     }
 }
 

@@ -101,6 +101,14 @@ pub fn telling() -> Vec<Named> {
             "a merge that goes back further, the other way",
             vec![0, 4, 4, 4, 1],
         ),
+        (
+            "a first bin that merges with block after block",
+            vec![9, 1, 2, 3, 4, 5],
+        ),
+        (
+            "a last bin that merges with block after block",
+            vec![5, 4, 3, 2, 1, 9],
+        ),
         ("means that are no whole numbers", vec![3, 2, 5, 1, 1, 8, 0]),
         ("leading zeros", vec![0, 0, 0, 5, 3]),
         ("trailing zeros", vec![3, 5, 0, 0, 0]),
