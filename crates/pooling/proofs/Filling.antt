@@ -29,7 +29,7 @@ pub filled-all : (w : Direction) (h : List ℕ) (f : Place → ℕ) (from : ℕ)
 filled-all w h f from buffer₀ buffer e held =
     held .1 ∙ ap (λ (z : List Place). over (map f z) buffer₀) (take-all from (places w h) (omega (arith, places-length w h)))
 
--- how many blocks there are
+-- there are no more blocks than bins
 pub blocks-few : (w : Direction) (h ss ls : List ℕ) (n : ℕ) → stackOf ss ls n ≡ blocks w h → n ≤ length h
 blocks-few w h ss ls n e = omega (arith, stack-length ss ls n, ap length e, cut-few (blocks-cut w h))
 
@@ -48,21 +48,21 @@ module _ (w : Direction) (h ss ls : List ℕ) where
   unfolding stackOf binsIn
   left-none k from z v = omega (arith, v .within, ap (λ (m : ℕ). binsIn (stackOf ss ls m)) z)
 
-  -- the foremost of them, as the arrays have it
-  abbrev pub foremost : ℕ → ℕ → Place
-  foremost k from = record { start = from; block = blockAt ss ls (k - 1) }
+  -- the first of them, as the arrays have it
+  abbrev pub first-left : ℕ → ℕ → Place
+  first-left k from = record { start = from; block = blockAt ss ls (k - 1) }
 
   module _ (k from : ℕ) (some : 0 < k) (v : Left k from) where
-    split : drop from (places w h) ≡ replicate (getD ls (k - 1) 0) (foremost k from) ++ placesFrom (from + getD ls (k - 1) 0) (stackOf ss ls (k - 1))
+    split : drop from (places w h) ≡ replicate (getD ls (k - 1) 0) (first-left k from) ++ placesFrom (from + getD ls (k - 1) 0) (stackOf ss ls (k - 1))
     unfolding placesFrom
     split = sym (v .rest) ∙ ap (placesFrom from) (stack-top ss ls k some)
 
     pub left-next : Left (k - 1) (from + getD ls (k - 1) 0)
     left-next =
         let l = getD ls (k - 1) 0 in
-        let xs : List Place = replicate l (foremost k from) in
+        let xs : List Place = replicate l (first-left k from) in
         let ys = placesFrom (from + l) (stackOf ss ls (k - 1)) in
-        let long : length xs ≡ l = length-replicate l (foremost k from) in
+        let long : length xs ≡ l = length-replicate l (first-left k from) in
         let z : length xs + 0 ≡ l = omega arith in
         record {
           within = omega (arith, v .within, bins-top ss ls k some);
@@ -73,25 +73,25 @@ module _ (w : Direction) (h ss ls : List ℕ) where
     left-room = omega (arith, v .within, bins-top ss ls k some)
 
     -- the places up to the end of this block
-    taken-next : take (from + getD ls (k - 1) 0) (places w h) ≡ take from (places w h) ++ replicate (getD ls (k - 1) 0) (foremost k from)
+    taken-next : take (from + getD ls (k - 1) 0) (places w h) ≡ take from (places w h) ++ replicate (getD ls (k - 1) 0) (first-left k from)
     taken-next =
         let l = getD ls (k - 1) 0 in
         take-add from l (places w h) ∙ ap (λ (z : List Place). take from (places w h) ++ z)
-        (ap (take l) split ∙ take-at (replicate l (foremost k from)) (placesFrom (from + l) (stackOf ss ls (k - 1))) l (length-replicate l (foremost k from)))
+        (ap (take l) split ∙ take-at (replicate l (first-left k from)) (placesFrom (from + l) (stackOf ss ls (k - 1))) l (length-replicate l (first-left k from)))
 
     -- a buffer that is filled with this block's figure too
     pub filled-more : (f : Place → ℕ) (buffer₀ buffer buffer′ : List ℕ) → Filled w h f from buffer₀ buffer
         → length buffer′ ≡ length buffer
-        → buffer′ ≡ over (take from buffer ++ replicate (from + getD ls (k - 1) 0 - from) (f (foremost k from))) buffer
+        → buffer′ ≡ over (take from buffer ++ replicate (from + getD ls (k - 1) 0 - from) (f (first-left k from))) buffer
         → Filled w h f (from + getD ls (k - 1) 0) buffer₀ buffer′
     filled-more f buffer₀ buffer buffer′ held l p =
         let n = getD ls (k - 1) 0 in
         let xs = map f (take from (places w h)) in
-        let v′ = f (foremost k from) in
+        let v′ = f (first-left k from) in
         let long : length xs ≡ from = length-map (take from (places w h)) f ∙ length-take-le from (places w h) (omega (arith, places-length w h, left-room)) in
         let count : from + n - from ≡ n = omega arith in
         let more : map f (take (from + n) (places w h)) ≡ xs ++ replicate n v′ =
-        ap (map f) taken-next ∙ map-append f (take from (places w h)) (replicate n (foremost k from)) ∙ ap (λ (z : List ℕ). xs ++ z) (map-replicate f n (foremost k from)) in (
+        ap (map f) taken-next ∙ map-append f (take from (places w h)) (replicate n (first-left k from)) ∙ ap (λ (z : List ℕ). xs ++ z) (map-replicate f n (first-left k from)) in (
           l ∙ held .0,
           p ∙ ap (λ (z : List ℕ). over (take from z ++ replicate (from + n - from) v′) z) (held .1)
               ∙ ap (λ (m : ℕ). over (take from (over xs buffer₀) ++ replicate m v′) (over xs buffer₀)) count

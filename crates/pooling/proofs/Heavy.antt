@@ -6,7 +6,7 @@ use native.Mathlib.Nat.{mul-le-mul-left, le-of-mul-le-mul-left, eq-of-mul-eq-mul
 use native.Mathlib.Omega.{arith}
 use borrow.Author.Tests.{ltb-true, ltb-false}
 use lib.ListN.{length, length-append}
-use Rattle.pooling.specs.Blocks.{Block, increasing, below, merged, lead, blocks, Strict}
+use Rattle.pooling.specs.Blocks.{Block, increasing, below, merged, push, blocks, Strict}
 use Rattle.pooling.specs.Best.{CutInto, empty, first}
 use Rattle.pooling.proofs.Basics.{strict-tail, block-eq}
 use Rattle.lists.specs.Lists.{total}
@@ -102,14 +102,14 @@ forms-join {x} {y} {b} {c} p q h =
     }
 
 -- ---- pooling makes such blocks
-pub lead-rises : {x h : List ℕ} {b : Block} {bs : List Block} → Forms x b → Cut h bs → Strict increasing bs → Rises (x ++ h) (lead increasing b bs)
-unfolding lead
-lead-rises {b} p done r = record { cut = seg p done; rising = tt }
-lead-rises {x} {b} p (seg {x = y} {h = h} {b = c} {bs = cs} q k) r =
-    by-cond (λ (bs : List Block). Rises (x ++ (y ++ h)) bs) (below b c) (b ∷ c ∷ cs) (lead increasing (merged b c) cs)
+pub push-rises : {x h : List ℕ} {b : Block} {bs : List Block} → Forms x b → Cut h bs → Strict increasing bs → Rises (x ++ h) (push increasing b bs)
+unfolding push
+push-rises {b} p done r = record { cut = seg p done; rising = tt }
+push-rises {x} {b} p (seg {x = y} {h = h} {b = c} {bs = cs} q k) r =
+    by-cond (λ (bs : List Block). Rises (x ++ (y ++ h)) bs) (below b c) (b ∷ c ∷ cs) (push increasing (merged b c) cs)
     (λ e. record { cut = seg p (seg q k); rising = (ltb-true _ _ e, r) })
-    (λ e. subst (λ (z : List ℕ). Rises z (lead increasing (merged b c) cs)) (append-assoc x y h)
-    (lead-rises (forms-join p q (ltb-false _ _ e)) k (strict-tail increasing c cs r)))
+    (λ e. subst (λ (z : List ℕ). Rises z (push increasing (merged b c) cs)) (append-assoc x y h)
+    (push-rises (forms-join p q (ltb-false _ _ e)) k (strict-tail increasing c cs r)))
 
 pub single : (x : ℕ) → Forms (x ∷ []) (record { sum = x; len = 1 })
 single x = record { long = refl; some = omega arith; sums = omega arith; heavy = (omega arith, omega arith) }
@@ -119,4 +119,4 @@ unfolding blocks
 blocks-rise [] = record { cut = done; rising = tt }
 blocks-rise (x ∷ h) =
     let k = blocks-rise h in
-    lead-rises (single x) (k .cut) (k .rising)
+    push-rises (single x) (k .cut) (k .rising)

@@ -7,7 +7,7 @@ use native.Mathlib.Nat.{add-comm}
 use native.Mathlib.Omega.{arith}
 use borrow.Author.Tests.{ltb-true, ltb-false}
 use lib.ListN.{length, replicate, length-append}
-use Rattle.pooling.specs.Blocks.{Block, Direction, increasing, decreasing, below, stepsTo, StepsTo, merged, lead, blocks, Strict, StrictFrom, spread}
+use Rattle.pooling.specs.Blocks.{Block, Direction, increasing, decreasing, below, stepsTo, StepsTo, merged, push, blocks, Strict, StrictFrom, spread}
 use Rattle.pooling.proofs.Basics.{turn, Full, strict-tail, block-eq}
 use Rattle.pooling.specs.Fraction.{Fraction, CommonDenominator, times, sumℤ, sumOf}
 use Rattle.pooling.specs.Best.{mean, means, CutInto, empty, first, Best}
@@ -36,21 +36,21 @@ record Stacked (g : List ℕ) (bs : List Block) : Type 0 where
 merged-comm : (a b : Block) → merged a b ≡ merged b a
 merged-comm a b = block-eq (add-comm (a .sum) (b .sum)) (add-comm (a .len) (b .len))
 
-lead-stacked : {g x : List ℕ} {b : Block} {bs : List Block} → Stack g bs → Strict decreasing bs → Forms x b → Stacked (g ++ x) (lead decreasing b bs)
-unfolding lead
-lead-stacked ground r p = record { stack = on ground p; falling = tt }
-lead-stacked {x = x} {b = b} (on {g = g} {x = y} {b = c} {bs = cs} k q) r p =
-    by-cond (λ (bs : List Block). Stacked ((g ++ y) ++ x) bs) (below c b) (b ∷ c ∷ cs) (lead decreasing (merged b c) cs)
+push-stacked : {g x : List ℕ} {b : Block} {bs : List Block} → Stack g bs → Strict decreasing bs → Forms x b → Stacked (g ++ x) (push decreasing b bs)
+unfolding push
+push-stacked ground r p = record { stack = on ground p; falling = tt }
+push-stacked {x = x} {b = b} (on {g = g} {x = y} {b = c} {bs = cs} k q) r p =
+    by-cond (λ (bs : List Block). Stacked ((g ++ y) ++ x) bs) (below c b) (b ∷ c ∷ cs) (push decreasing (merged b c) cs)
     (λ e. record { stack = on (on k q) p; falling = (ltb-true _ _ e, r) })
-    (λ e. subst (λ (z : List ℕ). Stacked z (lead decreasing (merged b c) cs)) (sym (append-assoc g y x))
-    (lead-stacked k (strict-tail decreasing c cs r) (subst (λ (d : Block). Forms (y ++ x) d) (merged-comm c b) (forms-join q p (ltb-false _ _ e)))))
+    (λ e. subst (λ (z : List ℕ). Stacked z (push decreasing (merged b c) cs)) (sym (append-assoc g y x))
+    (push-stacked k (strict-tail decreasing c cs r) (subst (λ (d : Block). Forms (y ++ x) d) (merged-comm c b) (forms-join q p (ltb-false _ _ e)))))
 
 blocks-stacked : (h : List ℕ) → Stacked (reverse h) (blocks decreasing h)
 unfolding blocks
 blocks-stacked [] = record { stack = ground; falling = tt }
 blocks-stacked (x ∷ h) =
     let k = blocks-stacked h in
-    subst (λ (z : List ℕ). Stacked z (lead decreasing (record { sum = x; len = 1 }) (blocks decreasing h))) (sym (reverse-cons x h)) (lead-stacked (k .stack) (k .falling) (single x))
+    subst (λ (z : List ℕ). Stacked z (push decreasing (record { sum = x; len = 1 }) (blocks decreasing h))) (sym (reverse-cons x h)) (push-stacked (k .stack) (k .falling) (single x))
 
 unstack : {g h : List ℕ} {bs cs : List Block} → Stack g bs → Cut h cs → Cut (g ++ h) (reverseAux bs cs)
 unstack ground c = c
@@ -125,20 +125,20 @@ pub blocks-unique : (w : Direction) (h : List ℕ) (cs : List Block) → Full cs
 blocks-unique w h cs p s k = unique-fit w h cs p s (subst (λ (z : List Fraction). Best w h z) (means-fit cs) k)
 
 -- ---- the blocks cut the bins, each has its bins' sum and number, and their means go strictly one way
-lead-cut : (w : Direction) (x : List ℕ) {h : List ℕ} {bs : List Block} → 0 < length x → CutInto h bs → CutInto (x ++ h) (lead w (blockOf x) bs)
-unfolding lead
-lead-cut w x some empty = first x some empty
-lead-cut w x some (first y {h = h} {bs = bs} more c) =
-    by-cond (λ (z : List Block). CutInto (x ++ (y ++ h)) z) (stepsTo w (blockOf x) (blockOf y)) (blockOf x ∷ blockOf y ∷ bs) (lead w (merged (blockOf x) (blockOf y)) bs)
+push-cut : (w : Direction) (x : List ℕ) {h : List ℕ} {bs : List Block} → 0 < length x → CutInto h bs → CutInto (x ++ h) (push w (blockOf x) bs)
+unfolding push
+push-cut w x some empty = first x some empty
+push-cut w x some (first y {h = h} {bs = bs} more c) =
+    by-cond (λ (z : List Block). CutInto (x ++ (y ++ h)) z) (stepsTo w (blockOf x) (blockOf y)) (blockOf x ∷ blockOf y ∷ bs) (push w (merged (blockOf x) (blockOf y)) bs)
     (λ e. first x some (first y more c))
-    (λ e. subst (λ (b : Block). CutInto (x ++ (y ++ h)) (lead w b bs)) (block-eq (total-append x y) (length-append x y))
-    (subst (λ (z : List ℕ). CutInto z (lead w (blockOf (x ++ y)) bs)) (append-assoc x y h)
-    (lead-cut w (x ++ y) (omega (arith, length-append x y)) c)))
+    (λ e. subst (λ (b : Block). CutInto (x ++ (y ++ h)) (push w b bs)) (block-eq (total-append x y) (length-append x y))
+    (subst (λ (z : List ℕ). CutInto z (push w (blockOf (x ++ y)) bs)) (append-assoc x y h)
+    (push-cut w (x ++ y) (omega (arith, length-append x y)) c)))
 
 pub blocks-cut : (w : Direction) (h : List ℕ) → CutInto h (blocks w h)
 unfolding blocks
 blocks-cut w [] = empty
-blocks-cut w (x ∷ h) = subst (λ (b : Block). CutInto (x ∷ h) (lead w b (blocks w h))) (block-eq (omega arith) refl) (lead-cut w (x ∷ []) (omega arith) (blocks-cut w h))
+blocks-cut w (x ∷ h) = subst (λ (b : Block). CutInto (x ∷ h) (push w b (blocks w h))) (block-eq (omega arith) refl) (push-cut w (x ∷ []) (omega arith) (blocks-cut w h))
 
 pub blocks-strict : (w : Direction) (h : List ℕ) → Strict w (blocks w h)
 blocks-strict increasing h = blocks-rise h .rising

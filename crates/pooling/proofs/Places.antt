@@ -16,7 +16,7 @@ use Rattle.pooling.proofs.Cuts.{cut-bins, Begins, here, there, PlaceOf,
 use Rattle.pooling.proofs.Laws.{blocks-cut}
 
 -- ---- places of any blocks
-pub places-from-length : (s : ℕ) (bs : List Block) → length (placesFrom s bs) ≡ binsIn bs
+places-from-length : (s : ℕ) (bs : List Block) → length (placesFrom s bs) ≡ binsIn bs
 unfolding placesFrom binsIn
 places-from-length s [] = refl
 places-from-length s (b ∷ bs) =

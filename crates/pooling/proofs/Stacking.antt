@@ -9,7 +9,7 @@ use lib.ListN.{length, getD, set, drop, length-drop}
 use lib.Seq.{drop-cons, getD-set-same, getD-set-other}
 use Rattle.lists.specs.Lists.{total}
 use Rattle.lists.proofs.Sums.{total-split}
-use Rattle.pooling.specs.Blocks.{Block, Direction, stepsTo, merged, lead, blocks}
+use Rattle.pooling.specs.Blocks.{Block, Direction, stepsTo, merged, push, blocks}
 use Rattle.pooling.specs.Stack.{stackOf, sumIn, binsIn, HeldFrom}
 use Rattle.pooling.proofs.Cuts.{cut-sum, cut-bins, cut-few}
 use Rattle.pooling.proofs.Laws.{blocks-cut}
@@ -58,30 +58,30 @@ stack-store ss ls n s l h k =
     let g : stackOf (set ss n s) (set ls n l) n ≡ stackOf ss ls n = stack-below ss ls n s l n (omega arith) in
     ap (λ (m : ℕ). stackOf (set ss n s) (set ls n l) m) (add-one n) ∙ (λ i. record { sum = e i; len = f i } ∷ g i)
 
--- ---- a block in front of the stack: of none, of a top to which the step is strict, and of a top to which it is not
-pub lead-none : (w : Direction) (b : Block) (ss ls : List ℕ) (n : ℕ) → n ≤ 0 → lead w b (stackOf ss ls n) ≡ b ∷ stackOf ss ls n
-unfolding lead stackOf
-lead-none w b ss ls zero h = refl
-lead-none w b ss ls (suc n) h = absurd (omega arith)
+-- ---- a push onto the stack: onto none, onto a top to which the step is strict, and into a top to which it is not
+pub push-none : (w : Direction) (b : Block) (ss ls : List ℕ) (n : ℕ) → n ≤ 0 → push w b (stackOf ss ls n) ≡ b ∷ stackOf ss ls n
+unfolding push stackOf
+push-none w b ss ls zero h = refl
+push-none w b ss ls (suc n) h = absurd (omega arith)
 
-pub lead-strict : (w : Direction) (b : Block) (ss ls : List ℕ) (n : ℕ) (t : Bool) → 0 < n → t ≡ stepsTo w b (blockAt ss ls (n - 1)) → t ≡ true
-    → lead w b (stackOf ss ls n) ≡ b ∷ stackOf ss ls n
-unfolding lead
-lead-strict w b ss ls n t h e g = rw (stack-top ss ls n h) (rw (← e, g))
+pub push-strict : (w : Direction) (b : Block) (ss ls : List ℕ) (n : ℕ) (t : Bool) → 0 < n → t ≡ stepsTo w b (blockAt ss ls (n - 1)) → t ≡ true
+    → push w b (stackOf ss ls n) ≡ b ∷ stackOf ss ls n
+unfolding push
+push-strict w b ss ls n t h e g = rw (stack-top ss ls n h) (rw (← e, g))
 
-pub lead-merged : (w : Direction) (b : Block) (ss ls : List ℕ) (n : ℕ) (t : Bool) (st : List Block) → 0 < n → t ≡ stepsTo w b (blockAt ss ls (n - 1)) → t ≡ false
-    → lead w b (stackOf ss ls n) ≡ st → lead w (merged b (blockAt ss ls (n - 1))) (stackOf ss ls (n - 1)) ≡ st
-unfolding lead
-lead-merged w b ss ls n t st h e g p = rw (← e, g) at (rw (stack-top ss ls n h) at p)
+pub push-merged : (w : Direction) (b : Block) (ss ls : List ℕ) (n : ℕ) (t : Bool) (st : List Block) → 0 < n → t ≡ stepsTo w b (blockAt ss ls (n - 1)) → t ≡ false
+    → push w b (stackOf ss ls n) ≡ st → push w (merged b (blockAt ss ls (n - 1))) (stackOf ss ls (n - 1)) ≡ st
+unfolding push
+push-merged w b ss ls n t st h e g p = rw (← e, g) at (rw (stack-top ss ls n h) at p)
 
--- ---- the next lower bin, bin i: the blocks of the bins behind it are held
+-- ---- the next lower bin, bin i: the blocks of the bins after it are held
 module _ (w : Direction) (h : List ℕ) (i : ℕ) (ss ls : List ℕ) (n : ℕ) (within : i < length h) (held : HeldFrom w h (i + 1) ss ls n) where
   with-next : drop i h ≡ getD h i 0 ∷ drop (i + 1) h
   with-next = drop-cons h i 0 within ∙ ap (λ (m : ℕ). getD h i 0 ∷ drop m h) (sym (add-one i))
 
-  pub held-more : (ss′ ls′ : List ℕ) (r : ℕ) → stackOf ss′ ls′ r ≡ lead w (record { sum = getD h i 0; len = 1 }) (stackOf ss ls n) → HeldFrom w h i ss′ ls′ r
+  pub held-more : (ss′ ls′ : List ℕ) (r : ℕ) → stackOf ss′ ls′ r ≡ push w (record { sum = getD h i 0; len = 1 }) (stackOf ss ls n) → HeldFrom w h i ss′ ls′ r
   unfolding blocks
-  held-more ss′ ls′ r p = p ∙ ap (lead w (record { sum = getD h i 0; len = 1 })) held ∙ ap (blocks w) (sym with-next)
+  held-more ss′ ls′ r p = p ∙ ap (push w (record { sum = getD h i 0; len = 1 })) held ∙ ap (blocks w) (sym with-next)
 
   -- there is room for it: a place in the arrays, and what it adds stays within the bins and counts of the stretch
   pub held-room : (n + i < length h) × (sumIn (stackOf ss ls n) + getD h i 0 ≤ total h) × (binsIn (stackOf ss ls n) + i < length h)

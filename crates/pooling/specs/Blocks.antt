@@ -39,15 +39,15 @@ StepsTo decreasing a b = Below b a
 abbrev pub merged : Block → Block → Block
 merged a b = record { sum = a .sum + b .sum; len = a .len + b .len }
 
--- P2: a block comes in front of those behind it. While the step from it to the first of them is not strict, the two become one
-unfoldable pub lead : Direction → Block → List Block → List Block
-lead w b [] = b ∷ []
-lead w b (c ∷ bs) = cond (stepsTo w b c) (b ∷ c ∷ bs) (lead w (merged b c) bs)
+-- P2: a block is pushed onto the blocks after it, of which the first is on top. While the step from it to the top one is not strict, the two become one
+unfoldable pub push : Direction → Block → List Block → List Block
+push w b [] = b ∷ []
+push w b (c ∷ bs) = cond (stepsTo w b c) (b ∷ c ∷ bs) (push w (merged b c) bs)
 
--- P2: the blocks of the bins h, in the order of the bins, which are taken from the last to the first, each as a block of its own
+-- P2: the blocks of the bins h, in their order. The bins are taken from the last to the first, each as a block of its own
 unfoldable pub blocks : Direction → List ℕ → List Block
 blocks w [] = []
-blocks w (x ∷ h) = lead w (record { sum = x; len = 1 }) (blocks w h)
+blocks w (x ∷ h) = push w (record { sum = x; len = 1 }) (blocks w h)
 
 -- each bin's block
 abbrev pub spread : List Block → List Block

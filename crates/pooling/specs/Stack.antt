@@ -8,12 +8,12 @@ use Prim.Native.Nat.{ℕ, zero, suc, _+_}
 use lib.ListN.{drop, getD}
 use Rattle.pooling.specs.Blocks.{Block, Direction, blocks}
 
--- the blocks in the first n places of the sums and of the lengths. The bins are taken from the last to the first, so the foremost block is on top, in the last of these places
+-- the blocks in the first n places of the sums and of the lengths, in the order of the bins: the first block is on top, in the last of these places
 unfoldable pub stackOf : List ℕ → List ℕ → ℕ → List Block
 stackOf sums lens zero = []
 stackOf sums lens (suc k) = record { sum = getD sums k 0; len = getD lens k 0 } ∷ stackOf sums lens k
 
--- P2: after each step the blocks held, with their sums and lengths, are those of the bins taken so far, from bin i to the last
+-- P2: the blocks held, each with its sum and length, are those of the bins from bin i to the last: what the step that takes bin i leaves
 abbrev pub HeldFrom : Direction → List ℕ → ℕ → List ℕ → List ℕ → ℕ → Type 0
 HeldFrom w h i sums lens n = stackOf sums lens n ≡ blocks w (drop i h)
 

@@ -33,14 +33,14 @@ fn steps_to(rising: bool, s: u32, l: u32, t: u32, m: u32) -> bool
     if rising { s * m < t * l } else { t * l < s * m }
 }
 
-// Puts a bin in front of the blocks in the first n places, the foremost of which is on top. Returns how many blocks there are then.
-fn lead(sums: &mut [u32], lens: &mut [u32], n: usize, rising: bool, x: u32) -> usize
+// Pushes one bin onto the stack of blocks in the first n places, and merges it with those on top while the step to them is not strict. Returns how many blocks there are then.
+fn push(sums: &mut [u32], lens: &mut [u32], n: usize, rising: bool, x: u32) -> usize
     requires { ⌜ (n < length (now sums))
         × (n < length (now lens))
         × (sumIn (stackOf (now sums) (now lens) n) + x ≤ mostCounts)
         × (binsIn (stackOf (now sums) (now lens) n) < mostBins) ⌝ }
     ensures { λ r. ⌜ stackOf (now (sums .exit)) (now (lens .exit)) r
-        ≡ Blocks.lead (direction rising) (record { sum = x; len = 1 }) (stackOf (now (sums .entry)) (now (lens .entry)) n) ⌝ }
+        ≡ Blocks.push (direction rising) (record { sum = x; len = 1 }) (stackOf (now (sums .entry)) (now (lens .entry)) n) ⌝ }
 {
     let mut top = n;
     let mut s = x;
@@ -76,7 +76,7 @@ fn take_bin(
     ensures { λ r. ⌜ HeldFrom (direction rising) (now (h .entry)) i (now (sums .exit)) (now (lens .exit)) r
         × Pooled (direction rising) (drop i (now (h .entry))) ⌝ }
 {
-    lead(sums, lens, n, rising, h[i])
+    push(sums, lens, n, rising, h[i])
 }
 
 // Takes all bins, from the last to the first. Returns how many blocks there are.

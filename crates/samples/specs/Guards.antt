@@ -28,10 +28,10 @@ guards =
     -- equal means share a block
     ∷ fit increasing (2 ∷ 2 ∷ []) (block 4 2 ∷ block 4 2 ∷ [])
     ∷ fit decreasing (2 ∷ 2 ∷ []) (block 4 2 ∷ block 4 2 ∷ [])
-    -- after a merge the fit looks further: a bin merges with two blocks, whether bins are taken from the last or from the first
+    -- after a merge the fit looks further: a bin that merges with two blocks if the bins are taken from the last, and one that does if they are taken from the first
     ∷ fit increasing (4 ∷ 1 ∷ 2 ∷ 3 ∷ []) (block 7 3 ∷ block 7 3 ∷ block 7 3 ∷ block 3 1 ∷ [])
     ∷ fit increasing (1 ∷ 2 ∷ 3 ∷ 0 ∷ []) (block 1 1 ∷ block 5 3 ∷ block 5 3 ∷ block 5 3 ∷ [])
-    -- decreasing: the mirror images
+    -- decreasing: the same
     ∷ fit decreasing (0 ∷ 3 ∷ 2 ∷ 1 ∷ []) (block 5 3 ∷ block 5 3 ∷ block 5 3 ∷ block 1 1 ∷ [])
     ∷ fit decreasing (3 ∷ 2 ∷ 1 ∷ 4 ∷ []) (block 3 1 ∷ block 7 3 ∷ block 7 3 ∷ block 7 3 ∷ [])
     -- in one block B is its length, not its length squared

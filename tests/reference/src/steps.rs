@@ -1,5 +1,5 @@
-//! Pooling in steps, from the last bin to the first: a histogram can arrive from its top bin down, and after each step
-//! the blocks are those of the bins taken so far.
+//! Pooling in steps, from the last bin to the first: a histogram can arrive from its top bin down, and each step leaves
+//! the blocks of the bins from there to the last.
 
 use crate::pooling::Block;
 

@@ -1,4 +1,4 @@
--- `take_bin` meets its contract: the bin comes in front of the blocks of the bins behind it. Assumes nothing.
+-- `take_bin` meets its contract: the bin is pushed onto the blocks of the bins after it. Assumes nothing.
 use borrow.Author.Needs.{needs}
 use native.Mathlib.Omega.{arith}
 use lib.ListN.{drop}
@@ -8,14 +8,14 @@ use Rattle.pooling.proofs.Stacking.{held-more, held-room}
 use Rattle.pooling.proofs.take_bin.Statement.{statement}
 use Rattle.pooling.proofs.take_bin.Tie as tie
 
-mul-lead : tie.Need-mul-lead
-mul-lead c = search needs
+mul-push : tie.Need-mul-push
+mul-push c = search needs
 
-shared-slice-read-lead : tie.Need-shared-slice-read-lead
-shared-slice-read-lead c = search needs
+shared-slice-read-push : tie.Need-shared-slice-read-push
+shared-slice-read-push c = search needs
 
-lead-requires : tie.Need-lead-requires
-lead-requires c κs =
+push-requires : tie.Need-push-requires
+push-requires c κs =
     let s = c .before .before .before .before .before .before in
     let room = held-room (direction (s .args .rising)) (s .args .h .now) (s .args .i) (s .args .sums .now) (s .args .lens .now) (s .args .n) (s .pre .1 .1 .0) (s .pre .1 .1 .1) in
     (omega arith, omega arith, omega (arith, s .pre .0 .counts), omega (arith, s .pre .0 .bins))
@@ -29,7 +29,7 @@ same-length-2 c = search needs
 returns : tie.Need-returns
 returns c =
     let s = c .before .before .before .before .before .before .before .before .before .before .before in
-    let r = c .before .before .before .before .lead in
+    let r = c .before .before .before .before .push in
     let w = direction (s .args .rising) in (
       held-more w (s .args .h .now) (s .args .i) (s .args .sums .now) (s .args .lens .now) (s .args .n) (s .pre .1 .1 .0) (s .pre .1 .1 .1) (r .last .0) (r .last .1 .0) (r .result) (r .ensures),
       always-pooled w (drop (s .args .i) (s .args .h .now)),
@@ -38,4 +38,4 @@ returns c =
 pub take-bin-spec : {M : Type 1} → statement M
 take-bin-spec =
     tie.close
-    (tie.spec mul-lead shared-slice-read-lead lead-requires same-length same-length-2 returns)
+    (tie.spec mul-push shared-slice-read-push push-requires same-length same-length-2 returns)

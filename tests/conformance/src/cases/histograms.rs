@@ -93,14 +93,8 @@ pub fn telling() -> Vec<Named> {
             "a block that comes to the mean of the bin after it",
             vec![1, 3, 1, 2],
         ),
-        (
-            "a merge that goes back further and further",
-            vec![1, 4, 4, 4, 0],
-        ),
-        (
-            "a merge that goes back further, the other way",
-            vec![0, 4, 4, 4, 1],
-        ),
+        ("a low last bin after equal ones", vec![1, 4, 4, 4, 0]),
+        ("a low first bin before equal ones", vec![0, 4, 4, 4, 1]),
         (
             "a first bin that merges with block after block",
             vec![9, 1, 2, 3, 4, 5],

@@ -1,3 +1,5 @@
+//! Lines for tests that want many.
+
 /// Counts without a pattern, the same ones at every run.
 pub struct Scatter(pub u64);
 

@@ -1,23 +1,23 @@
--- `lead` is that of the definitions, in place. The loop's invariant: the block so far, put in front of the first `top` blocks, makes the same blocks. Assumes nothing.
+-- `push` is the push of the definitions, in place. The loop's invariant: the block so far, pushed onto the first `top` blocks, makes the same stack. Assumes nothing.
 use mathlib.Core.Path.{_≡_, refl, sym, _∙_}
 use mathlib.Core.Logic.{⊎-elim}
 use Prim.Native.Nat.{_+_, _<_, _≤_}
 use borrow.Author.Needs.{needs}
 use native.Mathlib.Omega.{arith}
 use lib.ListN.{length-set}
-use Rattle.pooling.specs.Blocks.{direction, lead}
+use Rattle.pooling.specs.Blocks.{direction, push}
 use Rattle.pooling.specs.Limits.{mostBins, mostCounts}
 use Rattle.pooling.specs.Stack.{stackOf, sumIn, binsIn}
-use Rattle.pooling.proofs.Stacking.{sum-top, bins-top, lead-none, lead-strict, lead-merged, stack-store}
-use Rattle.pooling.proofs.lead.Statement.{statement}
-use Rattle.pooling.proofs.lead.Tie as tie
+use Rattle.pooling.proofs.Stacking.{sum-top, bins-top, push-none, push-strict, push-merged, stack-store}
+use Rattle.pooling.proofs.push.Statement.{statement}
+use Rattle.pooling.proofs.push.Tie as tie
 
 abbrev Inv-loop : tie.InvT-loop
 Inv-loop sums lens n rising x top₀ s₀ l₀ top s l =
     (top ≤ n)
     × (sumIn (stackOf sums lens top) + s ≤ mostCounts)
     × (binsIn (stackOf sums lens top) + l ≤ mostBins)
-    × (lead (direction rising) (record { sum = s; len = l }) (stackOf sums lens top) ≡ lead (direction rising) (record { sum = x; len = 1 }) (stackOf sums lens n))
+    × (push (direction rising) (record { sum = s; len = l }) (stackOf sums lens top) ≡ push (direction rising) (record { sum = x; len = 1 }) (stackOf sums lens n))
 
 abbrev μ-loop : tie.MeasureT-loop
 μ-loop sums lens n rising x top₀ s₀ l₀ top s l = top
@@ -78,7 +78,7 @@ loop-again c =
       omega arith,
       omega (arith, sum-top (a .sums .now) (a .lens .now) (v .top) (some t)),
       omega (arith, bins-top (a .sums .now) (a .lens .now) (v .top) (some t)),
-      lead-merged (direction (a .rising)) (record { sum = v .s; len = v .l }) (a .sums .now) (a .lens .now) (v .top) (c .before .steps-to .result) (lead (direction (a .rising)) (record { sum = a .x; len = 1 }) (stackOf (a .sums .now) (a .lens .now) (a .n)))
+      push-merged (direction (a .rising)) (record { sum = v .s; len = v .l }) (a .sums .now) (a .lens .now) (v .top) (c .before .steps-to .result) (push (direction (a .rising)) (record { sum = a .x; len = 1 }) (stackOf (a .sums .now) (a .lens .now) (a .n)))
           (some t) (c .before .steps-to .ensures) (c .if1 .left) (v .inv .3),
     )
 
@@ -109,13 +109,13 @@ returns c =
     let v = c .before .loop in
     stack-store (a .sums .now) (a .lens .now) (v .top) (v .s) (v .l) (omega arith) (omega arith)
     ∙ sym (⊎-elim
-    (λ w. lead-none (direction (a .rising)) (record { sum = v .s; len = v .l }) (a .sums .now) (a .lens .now) (v .top) (omega (arith, w .left)))
-    (λ w. lead-strict (direction (a .rising)) (record { sum = v .s; len = v .l }) (a .sums .now) (a .lens .now) (v .top) (w .3 .result) (omega (arith, w .0 .taken)) (w .3 .ensures) (w .4 .taken))
+    (λ w. push-none (direction (a .rising)) (record { sum = v .s; len = v .l }) (a .sums .now) (a .lens .now) (v .top) (omega (arith, w .left)))
+    (λ w. push-strict (direction (a .rising)) (record { sum = v .s; len = v .l }) (a .sums .now) (a .lens .now) (v .top) (w .3 .result) (omega (arith, w .0 .taken)) (w .3 .ensures) (w .4 .taken))
     (c .loop-test .came))
     ∙ v .inv .3
 
-pub lead-spec : {M : Type 1} → statement M
-lead-spec =
+pub push-spec : {M : Type 1} → statement M
+push-spec =
     tie.close
     (tie.spec
     Inv-loop
