@@ -4,7 +4,7 @@ use mathlib.Core.List.{List, _++_, map, map-append}
 use Prim.Native.Nat.{ℕ, _+_, _-_, _≤_, _<_}
 use native.Mathlib.Omega.{arith}
 use lib.ListN.{length, getD, take, drop, replicate, length-map, length-replicate}
-use lib.Seq.{length-take-le, take-all, take-at, take-add, drop-drop, drop-append-add}
+use lib.Seq.{length-take-le, take-all, take-at, take-add, drop-drop, drop-at}
 use Rattle.lists.specs.Lists.{over}
 use Rattle.lists.proofs.Buffers.{over-more}
 use Rattle.lists.proofs.Repeats.{map-replicate}
@@ -29,11 +29,11 @@ pub filled-all : (w : Direction) (h : List ℕ) (f : Place → ℕ) (from : ℕ)
 filled-all w h f from buffer₀ buffer e held =
     held .1 ∙ ap (λ (z : List Place). over (map f z) buffer₀) (take-all from (places w h) (omega (arith, places-length w h)))
 
--- there are no more blocks than bins
-pub blocks-few : (w : Direction) (h ss ls : List ℕ) (n : ℕ) → stackOf ss ls n ≡ blocks w h → n ≤ length h
-blocks-few w h ss ls n e = omega (arith, stack-length ss ls n, ap length e, cut-few (blocks-cut w h))
-
 module _ (w : Direction) (h ss ls : List ℕ) where
+  -- there are no more blocks than bins
+  pub blocks-few : (n : ℕ) → stackOf ss ls n ≡ blocks w h → n ≤ length h
+  blocks-few n e = omega (arith, stack-length ss ls n, ap length e, cut-few (blocks-cut w h))
+
   -- the first k places of the stack still hold the blocks from bin `from` on
   pub record Left (k from : ℕ) : Type 0 where
     pub within : from + binsIn (stackOf ss ls k) ≡ length h
@@ -60,13 +60,9 @@ module _ (w : Direction) (h ss ls : List ℕ) where
     pub left-next : Left (k - 1) (from + getD ls (k - 1) 0)
     left-next =
         let l = getD ls (k - 1) 0 in
-        let xs : List Place = replicate l (first-left k from) in
-        let ys = placesFrom (from + l) (stackOf ss ls (k - 1)) in
-        let long : length xs ≡ l = length-replicate l (first-left k from) in
-        let z : length xs + 0 ≡ l = omega arith in
         record {
           within = omega (arith, v .within, bins-top ss ls k some);
-          rest = sym (sym (drop-drop l from (places w h)) ∙ ap (drop l) split ∙ ap (λ (m : ℕ). drop m (xs ++ ys)) (sym z) ∙ drop-append-add xs ys 0);
+          rest = sym (sym (drop-drop l from (places w h)) ∙ ap (drop l) split ∙ drop-at (replicate l (first-left k from)) _ l (length-replicate l (first-left k from)));
         }
 
     pub left-room : from + getD ls (k - 1) 0 ≤ length h
@@ -77,7 +73,7 @@ module _ (w : Direction) (h ss ls : List ℕ) where
     taken-next =
         let l = getD ls (k - 1) 0 in
         take-add from l (places w h) ∙ ap (λ (z : List Place). take from (places w h) ++ z)
-        (ap (take l) split ∙ take-at (replicate l (first-left k from)) (placesFrom (from + l) (stackOf ss ls (k - 1))) l (length-replicate l (first-left k from)))
+        (ap (take l) split ∙ take-at (replicate l (first-left k from)) _ l (length-replicate l (first-left k from)))
 
     -- a buffer that is filled with this block's figure too
     pub filled-more : (f : Place → ℕ) (buffer₀ buffer buffer′ : List ℕ) → Filled w h f from buffer₀ buffer

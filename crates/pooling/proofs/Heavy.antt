@@ -102,7 +102,7 @@ forms-join {x} {y} {b} {c} p q h =
     }
 
 -- ---- pooling makes such blocks
-pub push-rises : {x h : List ℕ} {b : Block} {bs : List Block} → Forms x b → Cut h bs → Strict increasing bs → Rises (x ++ h) (push increasing b bs)
+push-rises : {x h : List ℕ} {b : Block} {bs : List Block} → Forms x b → Cut h bs → Strict increasing bs → Rises (x ++ h) (push increasing b bs)
 unfolding push
 push-rises {b} p done r = record { cut = seg p done; rising = tt }
 push-rises {x} {b} p (seg {x = y} {h = h} {b = c} {bs = cs} q k) r =

@@ -16,6 +16,10 @@ Inv-loop h rising sums₀ lens₀ n₀ i₀ sums lens n i = (i ≤ length h) × 
 abbrev μ-loop : tie.MeasureT-loop
 μ-loop h rising sums₀ lens₀ n₀ i₀ sums lens n i = i
 
+-- the way from a turn to the call
+abbrev entry : tie.At-loop Inv-loop μ-loop → tie.Start Inv-loop μ-loop
+entry c = c .before .before .before .before
+
 loop-holds : tie.Need-loop-holds Inv-loop μ-loop
 unfolding stackOf blocks
 loop-holds c =
@@ -27,19 +31,19 @@ sub-i c = search needs
 
 take-bin-requires : tie.Need-take-bin-requires Inv-loop μ-loop
 take-bin-requires c κs =
-    let s = c .before .before .before .before .before .before .before in
-    let v = c .before .before .before .loop in
+    let t = c .before .before .before in
+    let v = t .loop in
     let z : v .i ≡ v .i - 1 + 1 = omega arith in
-    (s .pre .0, ((omega arith, omega arith), (omega arith, rw z at (v .inv .3))))
+    (entry t .pre .0, ((omega arith, omega arith), (omega arith, rw z at (v .inv .3))))
 
 loop-less : tie.Need-loop-less Inv-loop μ-loop
 loop-less c = search needs
 
 loop-again : tie.Need-loop-again Inv-loop μ-loop
 loop-again c =
-    let v = c .before .before .before .before .before .before .before .before .loop in
-    let p = c .before .before .before .before .take-bin in
-    (omega arith, p .kept .1 .1 .1 .0 ∙ v .inv .1, p .kept .1 .1 .1 .1 .0 ∙ v .inv .2, p .ensures .0)
+    let p = c .before .before .before .before in
+    let v = p .before .before .before .before .loop in
+    (omega arith, p .take-bin .kept .1 .1 .1 .0 ∙ v .inv .1, p .take-bin .kept .1 .1 .1 .1 .0 ∙ v .inv .2, p .take-bin .ensures .0)
 
 same-length : tie.Need-same-length Inv-loop μ-loop
 same-length c = search needs

@@ -8,6 +8,10 @@ use Rattle.pooling.proofs.Stacking.{held-more, held-room}
 use Rattle.pooling.proofs.take_bin.Statement.{statement}
 use Rattle.pooling.proofs.take_bin.Tie as tie
 
+-- the way from the push to the call
+abbrev entry : tie.After-push → tie.Start
+entry c = c .before .before .before .before .before .before .before
+
 mul-push : tie.Need-mul-push
 mul-push c = search needs
 
@@ -28,8 +32,9 @@ same-length-2 c = search needs
 
 returns : tie.Need-returns
 returns c =
-    let s = c .before .before .before .before .before .before .before .before .before .before .before in
-    let r = c .before .before .before .before .push in
+    let p = c .before .before .before .before in
+    let s = entry p in
+    let r = p .push in
     let w = direction (s .args .rising) in (
       held-more w (s .args .h .now) (s .args .i) (s .args .sums .now) (s .args .lens .now) (s .args .n) (s .pre .1 .1 .0) (s .pre .1 .1 .1) (r .last .0) (r .last .1 .0) (r .result) (r .ensures),
       always-pooled w (drop (s .args .i) (s .args .h .now)),

@@ -1,4 +1,4 @@
-//! Lines for tests that want many.
+//! Lines of counts, for tests that want many of them.
 
 /// Counts without a pattern, the same ones at every run.
 pub struct Scatter(pub u64);
