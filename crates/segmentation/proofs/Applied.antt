@@ -14,11 +14,11 @@ use Rattle.lists.proofs.Shifts.{shift-before, shift-at}
 use Rattle.lists.specs.Lists.{numbers, firstThat, maybe}
 use Rattle.verdict.specs.Test.{Closeness}
 use Rattle.segmentation.specs.Segments.{Segment, segmentAt, firstSegments}
-use Rattle.segmentation.specs.Joining.{Reader, lineReader, Join, joined, join, nextJoin, joinAll, lineModes}
+use Rattle.segmentation.specs.Joining.{lineReader, Join, joined, join, Joins, lineJoins, joinAll, lineModes}
 use Rattle.segmentation.specs.Held.{segmentsHeld, joinFound}
 use Rattle.segmentation.specs.Finished.{Cut}
 use Rattle.segmentation.proofs.Holding.{held-length, held-at}
-use Rattle.segmentation.proofs.Settled.{shorter, fuel-enough}
+use Rattle.segmentation.proofs.Settled.{Shortens, joins-step}
 
 -- segment number i of those held
 abbrev heldOne : List ℕ → List ℕ → ℕ → Segment
@@ -160,40 +160,20 @@ pub found-none : (found : Bool) (j : Join) (o : Option Join) → joinFound found
 found-none true j o e t = absurd (false≢true t)
 found-none false j o e t = sym e
 
-module _ (e : Closeness) (read : Reader) where
-  pub joins-none : (n : ℕ) (ss : List Segment) → nextJoin e read ss ≡ none → joinAll n e read ss ≡ ss
-  unfolding joinAll
-  joins-none zero ss q = refl
-  joins-none (suc n) ss q = ap (maybe ss (λ j. joinAll n e read (join ss j))) q
+-- with r segments held after a join of n, what is left to do is the same
+pub held-step : (w : Joins) → Shortens w → (s p t q : List ℕ) (n r : ℕ) (j : Join) → w .next (segmentsHeld s p 0 n) ≡ some j
+    → segmentsHeld t q 0 r ≡ w .after (segmentsHeld s p 0 n) j → joinAll r w (segmentsHeld t q 0 r) ≡ joinAll n w (segmentsHeld s p 0 n)
+held-step w shortens s p t q n r j next done =
+    let ss : List Segment = segmentsHeld s p 0 n in
+    let l : r ≡ length (w .after ss j) = sym (held-length t q 0 r) ∙ ap length done in
+    ap (joinAll r w) done ∙ ap (λ (k : ℕ). joinAll k w (w .after ss j)) l ∙ joins-step w shortens ss j next
+    ∙ ap (λ (k : ℕ). joinAll k w ss) (held-length s p 0 n)
 
-  -- a single segment has nothing to join
-  pub one-joins-none : (ss : List Segment) → length ss ≤ 1 → nextJoin e read ss ≡ none
-  unfolding nextJoin numbers firstThat
-  one-joins-none ss l = let z : length ss - 1 ≡ 0 = omega arith in rw z refl
-
-  joins-more : (n : ℕ) (ss : List Segment) (j : Join) → nextJoin e read ss ≡ some j → joinAll (suc n) e read ss ≡ joinAll n e read (join ss j)
-  unfolding joinAll
-  joins-more n ss j q = ap (maybe ss (λ j. joinAll n e read (join ss j))) q
-
-  -- with r segments held after a join of n, what is left to do is the same
-  pub joins-step : (s p t q : List ℕ) (n r : ℕ) (j : Join) → nextJoin e read (segmentsHeld s p 0 n) ≡ some j → segmentsHeld t q 0 r ≡ join (segmentsHeld s p 0 n) j
-      → joinAll r e read (segmentsHeld t q 0 r) ≡ joinAll n e read (segmentsHeld s p 0 n)
-  joins-step s p t q n r j next done =
-      let ss : List Segment = segmentsHeld s p 0 n in
-      let l : length (join ss j) ≡ r = ap length (sym done) ∙ held-length t q 0 r in
-      let d : length (join ss j) < length ss = shorter e read ss j next in
-      let k : length ss ≡ n = held-length s p 0 n in
-      let m : n ≡ suc (n - 1) = omega arith in
-      ap (joinAll r e read) done
-      ∙ ap (λ i. joinAll i e read (join ss j)) (sym l)
-      ∙ sym (fuel-enough e read (n - 1) (join ss j) (omega arith))
-      ∙ sym (joins-more (n - 1) ss j next)
-      ∙ ap (λ i. joinAll i e read ss) (sym m)
-
-pub line-held : (e : Closeness) (h s p : List ℕ) (n : ℕ) → segmentsHeld s p 0 n ≡ firstSegments h → joinAll n e (lineReader h) (segmentsHeld s p 0 n) ≡ lineModes e h
+pub line-held : (e : Closeness) (h s p : List ℕ) (n : ℕ) → segmentsHeld s p 0 n ≡ firstSegments h → joinAll n (lineJoins e (lineReader h)) (segmentsHeld s p 0 n) ≡ lineModes e h
 unfolding lineModes
 line-held e h s p n q =
-    ap (joinAll n e (lineReader h)) q ∙ ap (λ i. joinAll i e (lineReader h) (firstSegments h)) (sym (held-length s p 0 n) ∙ ap length q)
+    let w = lineJoins e (lineReader h) in
+    ap (joinAll n w) q ∙ ap (λ (k : ℕ). joinAll k w (firstSegments h)) (sym (held-length s p 0 n) ∙ ap length q)
 
 -- ---- separators rise from bin 0 to the last bin, so a line has more bins than segments
 module _ {bins : ℕ} {ss : List Segment} (c : Cut bins ss) where
@@ -201,14 +181,14 @@ module _ {bins : ℕ} {ss : List Segment} (c : Cut bins ss) where
   start-grows zero h = omega arith
   start-grows (suc m) h =
       let i = start-grows m (omega arith) in
-      let a = c .ascending m (omega arith) in
-      let b = c .adjacent m h in
+      let a = c .chain .ascending m (omega arith) in
+      let b = c .chain .adjacent m h in
       omega arith
 
   pub cut-count : length ss < bins
   cut-count =
       let some = c .nonEmpty in
       let i = start-grows (length ss - 1) (omega arith) in
-      let a = c .ascending (length ss - 1) (omega arith) in
+      let a = c .chain .ascending (length ss - 1) (omega arith) in
       let b = c .toLastBin in
       omega arith

@@ -18,10 +18,10 @@ use Rattle.verdict.specs.Test.{Closeness}
 use Rattle.verdict.specs.Exactness.{VerdictSound}
 use Rattle.verdict.proofs.Sound.{verdict-sound}
 use Rattle.segmentation.specs.Segments.{Segment, segmentAt, binAt, firstSegments}
-use Rattle.segmentation.specs.Joining.{lineReader, Join, join, nextJoin, lineModes, lineSeparators}
+use Rattle.segmentation.specs.Joining.{lineReader, Join, join, nextJoin, lineJoins, lineModes, lineSeparators}
 use Rattle.segmentation.specs.Inside.{Inside, modeCount}
 use Rattle.segmentation.specs.Finished.{Cut, SingleHump, AlwaysFinished}
-use Rattle.segmentation.proofs.Settled.{next-of, next-run, next-below, join-all-keeps, none-joinable}
+use Rattle.segmentation.proofs.Settled.{next-of, next-run, next-below, join-all-keeps, line-none-joinable}
 use Rattle.segmentation.proofs.Kept.{Run, join-cut, join-inside, join-counts, join-humps}
 use Rattle.segmentation.proofs.OneMode.{one-mode}
 use Rattle.segmentation.proofs.FirstCut.{first-cut, first-humps, first-inside, first-counts}
@@ -65,9 +65,9 @@ module _ (e : Closeness) (h : List ℕ) where
       let ss = lineModes e h in
       let k : i < length ss = omega (arith, separators-length) in
       let a = separator-at i k in
-      let b = c .ascending i k in
+      let b = c .chain .ascending i k in
       by-order (suc i) (length ss)
-      (λ m. omega (arith, separator-at (suc i) m, c .adjacent i m))
+      (λ m. omega (arith, separator-at (suc i) m, c .chain .adjacent i m))
       (λ m.
       let last : suc i ≡ length ss = omega arith in
       let at : i ≡ length ss - 1 = omega arith in
@@ -81,12 +81,12 @@ module _ (e : Closeness) (h : List ℕ) where
 -- ---- of the first segments, whatever proves it of them
 module _ (e : Closeness) (h : List ℕ) (two : 2 ≤ length h) where
   -- what every join of a line keeps, given its cut, holds of its modes
-  kept : (P : List Segment → Type 0)
+  pub kept : (P : List Segment → Type 0)
       → ((ss : List Segment) (j : Join) → nextJoin e (lineReader h) ss ≡ some j → Cut (length h) ss → Run ss j → P ss → P (join ss j))
       → P (firstSegments h) → Cut (length h) (lineModes e h) × P (lineModes e h)
   unfolding lineModes
   kept P keeps p =
-      join-all-keeps e (lineReader h) (λ ss. Cut (length h) ss × P ss)
+      join-all-keeps (lineJoins e (lineReader h)) (λ ss. Cut (length h) ss × P ss)
       (λ ss j q c. let v = next-run e (lineReader h) ss j q in (join-cut (length h) ss j (c .0) v, keeps ss j q (c .0) v (c .1)))
       (length (firstSegments h)) (firstSegments h) (first-cut h two, p)
 
@@ -112,8 +112,8 @@ module _ (e : Closeness) (h : List ℕ) (two : 2 ≤ length h) where
       next-humps : (ss : List Segment) (j : Join) → nextJoin e (lineReader h) ss ≡ some j → Cut (length h) ss → Run ss j → Humps ss → Humps (join ss j)
       next-humps ss j q c v humps =
           let r = next-of e (lineReader h) ss j q in
-          subst (λ (k : Join). ltZ (k .cost) (pos 0) ≡ true → Run ss k → Humps (join ss k)) (r .2)
-          (λ b w. join-humps e (lineReader h) ss (r .0) (r .1) b w humps) (next-below e (lineReader h) ss j q) v
+          subst (λ (k : Join). ltZ (k .cost) (pos 0) ≡ true → Run ss k → Humps (join ss k)) (r .same)
+          (λ b w. join-humps e (lineReader h) ss (r .first) (r .len) b w humps) (next-below e (lineReader h) ss j q) v
 
 pub line-finished : AlwaysFinished
 line-finished e h two bins counts =
@@ -121,7 +121,7 @@ line-finished e h two bins counts =
     record {
       finished = record {
         cut = c;
-        noneJoinable = none-joinable e h;
+        noneJoinable = line-none-joinable e h;
         humps = modes-humps e h two;
         oneMode = one-mode (length h) (lineModes e h) c;
         verdicts = λ w. part-sound e w h bins counts;

@@ -95,12 +95,14 @@ module _ (h : List ℕ) (two : 2 ≤ length h) where
         let k = length (firstSegments h) - 1 in
         let l : k < length (firstSegments h) = omega (arith, segments-length) in
         omega (arith, end-of k l, first-last k (omega arith));
-    adjacent = λ m l. end-of m (omega arith) ∙ sym (start-of (suc m) l);
-    ascending = λ m l. omega (arith, start-of m l, end-of m l, first-neighbours m l .below);
-    peakInside = λ m l. (
-      omega (arith, start-of m l, peak-of m l, peak-from h (separatorAt h m) (separatorAt h (suc m)) two (first-neighbours m l)),
-      omega (arith, end-of m l, peak-of m l, peak-to h (separatorAt h m) (separatorAt h (suc m)) two (first-neighbours m l)),
-    );
+    chain = record {
+      adjacent = λ m l. end-of m (omega arith) ∙ sym (start-of (suc m) l);
+      ascending = λ m l. omega (arith, start-of m l, end-of m l, first-neighbours m l .below);
+      peakInside = λ m l. (
+        omega (arith, start-of m l, peak-of m l, peak-from h (separatorAt h m) (separatorAt h (suc m)) two (first-neighbours m l)),
+        omega (arith, end-of m l, peak-of m l, peak-to h (separatorAt h m) (separatorAt h (suc m)) two (first-neighbours m l)),
+      );
+    };
   }
 
   pub first-inside : Inside (firstSegments h)

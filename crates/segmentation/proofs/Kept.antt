@@ -17,7 +17,7 @@ use Rattle.verdict.specs.Test.{Closeness, cost, stepAgainst, rejected}
 use Rattle.segmentation.specs.Segments.{Segment, segmentAt}
 use Rattle.segmentation.specs.Joining.{Reader, Join, riseOf, fallOf, lastIn, joined, join, riseCost, fallCost, joinOf}
 use Rattle.segmentation.specs.Inside.{Inside, modeCount}
-use Rattle.segmentation.specs.Finished.{Cut, SingleHump}
+use Rattle.segmentation.specs.Finished.{Chain, Cut, SingleHump}
 
 -- j is a run of two or more of the segments ss
 pub record Run (ss : List Segment) (j : Join) : Type 0 where
@@ -141,20 +141,49 @@ module _ (ss : List Segment) (j : Join) (v : Run ss j) (m : ℕ) where
       subst P (sym (ap (λ (s : Segment). s .peak) join-at))
       (by-cond P (j .rise) (segmentAt ss (lastOf j m) .peak) (segmentAt ss (firstOf j m) .peak) (λ e. f) (λ e. g))
 
+-- ---- segments that follow one another: of a line, and round a ring
+pub record Between (ss : List Segment) (i n : ℕ) : Type 0 where
+  pub riseFrom : segmentAt ss i .start ≤ lastIn ss i n .peak
+  pub riseTo : lastIn ss i n .peak ≤ lastIn ss i n .end
+  pub fallFrom : segmentAt ss i .start ≤ segmentAt ss i .peak
+  pub fallTo : segmentAt ss i .peak ≤ lastIn ss i n .end
+
+module _ (ss : List Segment) (c : Chain ss) where
+  pub chain-starts : (a b : ℕ) → a ≤ b → b < length ss → segmentAt ss a .start ≤ segmentAt ss b .start
+  chain-starts a zero l k = let z : a ≡ 0 = omega arith in rw z (omega arith)
+  chain-starts a (suc b) l k =
+      last-or a b l
+      (λ i. omega (arith, chain-starts a b i (omega arith), c .ascending b (omega arith), c .adjacent b k))
+      (λ z. rw z (omega arith))
+
+  pub chain-ends : (a b : ℕ) → a ≤ b → b < length ss → segmentAt ss a .end ≤ segmentAt ss b .end
+  chain-ends a b l k =
+      by-order a b
+      (λ i. omega (arith, c .adjacent a (omega arith), chain-starts (suc a) b i k, c .ascending b k))
+      (λ i. let z : a ≡ b = omega arith in rw z (omega arith))
+
+  -- the two stretches of a run lie between its first separator and its last one
+  pub between : (i n : ℕ) → 1 ≤ n → i + n ≤ length ss → Between ss i n
+  between i n one fit =
+      let first = c .peakInside i (omega arith) in
+      let last = c .peakInside (i + n - 1) (omega arith) in
+      record {
+        riseFrom = omega (arith, last, chain-starts i (i + n - 1) (omega arith) (omega arith));
+        riseTo = last .1;
+        fallFrom = first .0;
+        fallTo = omega (arith, first, chain-ends i (i + n - 1) (omega arith) (omega arith));
+      }
+
+  pub chain-rises : (a b : ℕ) → a < b → b < length ss → segmentAt ss a .start < segmentAt ss b .start
+  chain-rises a b l k = omega (arith, c .ascending a (omega arith), c .adjacent a (omega arith), chain-starts (suc a) b l k)
+
 -- ---- the separators of a cut ascend, and a run of two or more has two bins or more in its rise and in its fall
 module _ (bins : ℕ) (ss : List Segment) (c : Cut bins ss) where
   pub starts-ascend : (a b : ℕ) → a ≤ b → b < length ss → segmentAt ss a .start ≤ segmentAt ss b .start
-  starts-ascend a zero l k = let z : a ≡ 0 = omega arith in rw z (omega arith)
-  starts-ascend a (suc b) l k =
-      last-or a b l
-      (λ i. omega (arith, starts-ascend a b i (omega arith), c .ascending b (omega arith), c .adjacent b k))
-      (λ z. rw z (omega arith))
+  starts-ascend = chain-starts ss (c .chain)
 
   pub ends-ascend : (a b : ℕ) → a ≤ b → b < length ss → segmentAt ss a .end ≤ segmentAt ss b .end
-  ends-ascend a b l k =
-      by-order a b
-      (λ i. omega (arith, c .adjacent a (omega arith), starts-ascend (suc a) b i k, c .ascending b k))
-      (λ i. let z : a ≡ b = omega arith in rw z (omega arith))
+  ends-ascend = chain-ends ss (c .chain)
 
   pub run-bins : Inside ss → (i n : ℕ) → 2 ≤ n → i + n ≤ length ss
       → (segmentAt ss i .start < lastIn ss i n .peak) × (segmentAt ss i .peak < lastIn ss i n .end)
@@ -177,37 +206,55 @@ record RunOf (ss : List Segment) (s : Segment) (first last : ℕ) : Type 0 where
 abbrev stop : List Segment → ℕ → ℕ
 stop ss m = cond (eqb (suc m) (length ss)) (suc (segmentAt ss m .end)) (segmentAt ss m .end)
 
-module _ (bins : ℕ) (ss : List Segment) (j : Join) (c : Cut bins ss) (v : Run ss j) where
-  run-of : (m : ℕ) → m < length (join ss j) → RunOf ss (segmentAt (join ss j) m) (firstOf j m) (lastOf j m)
-  run-of m l = record {
+module _ (ss : List Segment) (j : Join) (c : Chain ss) (v : Run ss j) where
+  chain-run : (m : ℕ) → m < length (join ss j) → RunOf ss (segmentAt (join ss j) m) (firstOf j m) (lastOf j m)
+  chain-run m l = record {
     order = in-order ss j v m;
     within = last-in ss j v m l;
     start = ap (λ (s : Segment). s .start) (join-at ss j v m);
     end = ap (λ (s : Segment). s .end) (join-at ss j v m);
-    starts = starts-ascend bins ss c (firstOf j m) (lastOf j m) (in-order ss j v m) (last-in ss j v m l);
-    ends = ends-ascend bins ss c (firstOf j m) (lastOf j m) (in-order ss j v m) (last-in ss j v m l);
+    starts = chain-starts ss c (firstOf j m) (lastOf j m) (in-order ss j v m) (last-in ss j v m l);
+    ends = chain-ends ss c (firstOf j m) (lastOf j m) (in-order ss j v m) (last-in ss j v m l);
   }
 
-  pub join-cut : Cut bins (join ss j)
-  join-cut = record {
-    nonEmpty = omega (arith, join-length ss j v);
-    fromFirstBin =
-        run-of 0 (omega (arith, join-length ss j v)) .start
-        ∙ ap (λ (i : ℕ). segmentAt ss i .start) (first-to j 0 (omega arith)) ∙ c .fromFirstBin;
-    toLastBin =
-        let n = length (join ss j) - 1 in
-        let e : lastOf j n ≡ length ss - 1 = last-from j n (omega (arith, join-length ss j v)) ∙ omega (arith, join-length ss j v) in
-        ap suc (run-of n (omega (arith, join-length ss j v)) .end ∙ ap (λ (i : ℕ). segmentAt ss i .end) e) ∙ c .toLastBin;
+  pub join-first : segmentAt (join ss j) 0 .start ≡ segmentAt ss 0 .start
+  join-first = chain-run 0 (omega (arith, join-length ss j v)) .start ∙ ap (λ (i : ℕ). segmentAt ss i .start) (first-to j 0 (omega arith))
+
+  pub join-last : segmentAt (join ss j) (length (join ss j) - 1) .end ≡ segmentAt ss (length ss - 1) .end
+  join-last =
+      let n = length (join ss j) - 1 in
+      let e : lastOf j n ≡ length ss - 1 = last-from j n (omega (arith, join-length ss j v)) ∙ omega (arith, join-length ss j v) in
+      chain-run n (omega (arith, join-length ss j v)) .end ∙ ap (λ (i : ℕ). segmentAt ss i .end) e
+
+  pub join-chain : Chain (join ss j)
+  join-chain = record {
     adjacent = λ m l.
-        run-of m (omega arith) .end ∙ c .adjacent (lastOf j m) (not-last ss j v m l)
-        ∙ ap (λ (i : ℕ). segmentAt ss i .start) (sym (next-first ss j v m)) ∙ sym (run-of (suc m) l .start);
-    ascending = λ m l. let r = run-of m l in omega (arith, c .ascending (lastOf j m) (r .within));
+        chain-run m (omega arith) .end ∙ c .adjacent (lastOf j m) (not-last ss j v m l)
+        ∙ ap (λ (i : ℕ). segmentAt ss i .start) (sym (next-first ss j v m)) ∙ sym (chain-run (suc m) l .start);
+    ascending = λ m l. let r = chain-run m l in omega (arith, c .ascending (lastOf j m) (r .within));
     peakInside = λ m l.
-        let r = run-of m l in
+        let r = chain-run m l in
         let a = c .peakInside (firstOf j m) (omega arith) in
         let b = c .peakInside (lastOf j m) (r .within) in
         by-peak ss j v m (λ (p : ℕ). (segmentAt (join ss j) m .start ≤ p) × (p ≤ segmentAt (join ss j) m .end))
         (omega arith, omega arith) (omega arith, omega arith);
+  }
+
+  -- each mode starts where one of them started, and ends where that one ended or later
+  pub join-starts : (m : ℕ) → m < length (join ss j)
+      → (k : ℕ) × (k < length ss) × (segmentAt (join ss j) m .start ≡ segmentAt ss k .start) × (segmentAt ss k .end ≤ segmentAt (join ss j) m .end)
+  join-starts m l = let r = chain-run m l in (firstOf j m, omega arith, r .start, omega arith)
+
+module _ (bins : ℕ) (ss : List Segment) (j : Join) (c : Cut bins ss) (v : Run ss j) where
+  run-of : (m : ℕ) → m < length (join ss j) → RunOf ss (segmentAt (join ss j) m) (firstOf j m) (lastOf j m)
+  run-of = chain-run ss j (c .chain) v
+
+  pub join-cut : Cut bins (join ss j)
+  join-cut = record {
+    nonEmpty = omega (arith, join-length ss j v);
+    fromFirstBin = join-first ss j (c .chain) v ∙ c .fromFirstBin;
+    toLastBin = ap suc (join-last ss j (c .chain) v) ∙ c .toLastBin;
+    chain = join-chain ss j (c .chain) v;
   }
 
   pub join-inside : Inside ss → Inside (join ss j)
@@ -261,10 +308,10 @@ below-accepts e w h l = go (cost e w h) l
     go (negsuc a) t = and-false (stepAgainst w h)
 
 module _ (e : Closeness) (read : Reader) where
-  abbrev Hump : Segment → Type 0
+  abbrev pub Hump : Segment → Type 0
   Hump s = (rejected e increasing (read (s .start) (s .peak)) ≡ false) × (rejected e decreasing (read (s .peak) (s .end)) ≡ false)
 
-  hump-at : (ss : List Segment) (m : ℕ) → SingleHump e read ss m → Hump (segmentAt ss m)
+  pub hump-at : (ss : List Segment) (m : ℕ) → SingleHump e read ss m → Hump (segmentAt ss m)
   unfolding riseOf fallOf
   hump-at ss m h =
       let z : m + 1 - 1 ≡ m = omega arith in (
@@ -272,7 +319,7 @@ module _ (e : Closeness) (read : Reader) where
         subst (λ (k : ℕ). rejected e decreasing (read (segmentAt ss m .peak) (segmentAt ss k .end)) ≡ false) z (h .fall),
       )
 
-  at-hump : (ss : List Segment) (m : ℕ) (s : Segment) → segmentAt ss m ≡ s → Hump s → SingleHump e read ss m
+  pub at-hump : (ss : List Segment) (m : ℕ) (s : Segment) → segmentAt ss m ≡ s → Hump s → SingleHump e read ss m
   unfolding riseOf fallOf
   at-hump ss m s q h = let z : m + 1 - 1 ≡ m = omega arith in record { rise = rw (z, q) (h .0); fall = rw (z, q) (h .1) }
 

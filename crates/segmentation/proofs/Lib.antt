@@ -12,6 +12,13 @@ mod Holding
 mod Searching
 mod Applied
 pub mod RingPlaces
+mod TwoTurns
+mod Turned
+mod RoundKept
+pub mod RoundOne
+mod RunsInside
+mod HeldTwice
 pub mod RingModes
+pub mod RingFilled
 pub mod Loose
 mod Listed

@@ -11,12 +11,12 @@ use Rattle.segmentation.specs.Segments.{Segment, segmentAt}
 use Rattle.segmentation.specs.Joining.{lineModes, lineSeparators}
 use Rattle.segmentation.specs.Held.{segmentsHeld}
 use Rattle.segmentation.specs.Finished.{Cut}
-use Rattle.segmentation.specs.Ring.{opening, opened, ringModes, ringSeparators}
+use Rattle.segmentation.specs.Ring.{opened, ringModes}
 use Rattle.segmentation.proofs.Holding.{held-length, held-at}
 use Rattle.segmentation.proofs.Finishing.{modes-cut, separators-length}
 use Rattle.segmentation.proofs.Applied.{cut-count}
 use Rattle.segmentation.proofs.RingPlaces.{ring-length}
-use Rattle.segmentation.proofs.RingModes.{ring-separators}
+use Rattle.segmentation.proofs.RingModes.{ring-fewer}
 
 -- where n held segments start, from number i on
 held-starts : (s p : List ℕ) (i n : ℕ) → i + n ≤ length s → map (λ (x : Segment). x .start) (segmentsHeld s p i n) ≡ take n (drop i s)
@@ -56,25 +56,16 @@ module _ (e : Closeness) (h s p : List ℕ) (n : ℕ) (two : 2 ≤ length h) (he
   pub line-listed-length : n + 1 ≡ length (lineSeparators e h)
   line-listed-length = omega (arith, separators-length e h, ap length held, held-length s p 0 n)
 
--- the same of a ring, by its opened line
-module _ (e : Closeness) (h s p : List ℕ) (n : ℕ) (two : 2 ≤ length h) (held : segmentsHeld s p 0 n ≡ lineModes e (opened h)) where
-  long : 2 ≤ length (opened h)
-  long = omega (arith, ring-length h (omega arith))
+-- the same of a ring: where its modes start, by places from the opening on
+module _ (e : Closeness) (h s p : List ℕ) (n : ℕ) (two : 2 ≤ length h) (held : segmentsHeld s p 0 n ≡ ringModes e h) where
+  pub ring-held-count : n ≡ length (ringModes e h)
+  ring-held-count = sym (held-length s p 0 n) ∙ ap length held
 
-  pub ring-listed-count : n ≤ length h
-  ring-listed-count = omega (arith, listed-count e (opened h) s p n long held, ring-length h (omega arith))
+  pub ring-held-starts : n ≤ length s → take n s ≡ map (λ (x : Segment). x .start) (ringModes e h)
+  ring-held-starts l = sym (held-starts s p 0 n (omega arith)) ∙ ap (map (λ (x : Segment). x .start)) held
 
-  pub ring-listed-length : n ≡ length (ringSeparators e h)
-  unfolding ringSeparators ringModes
-  ring-listed-length = sym (held-length s p 0 n) ∙ ap length held ∙ sym (length-map (lineModes e (opened h)) _)
-
-  modes : n ≡ length (ringModes e h)
-  unfolding ringModes
-  modes = sym (held-length s p 0 n) ∙ ap length held
-
-  front : n < length s → take n s ≡ take n (lineSeparators e (opened h))
-  front l = sym (take-take n (n + 1) s (omega arith)) ∙ ap (take n) (line-listed e (opened h) s p n long held l)
-
-  pub ring-numbers-listed : n < length s → map (λ (x : ℕ). (opening h + x) % length h) (take n s) ≡ ringSeparators e h
-  ring-numbers-listed l =
-      ap (map (λ (x : ℕ). (opening h + x) % length h)) (front l ∙ ap (λ (k : ℕ). take k (lineSeparators e (opened h))) modes) ∙ sym (ring-separators e h)
+-- a ring has no more modes than bins
+pub ring-modes-most : (e : Closeness) (h : List ℕ) → 2 ≤ length h → length (ringModes e h) ≤ length h
+ring-modes-most e h two =
+    let long = ring-length h (omega arith) in
+    omega (arith, ring-fewer h two e, cut-count (modes-cut e (opened h) (omega arith)))

@@ -61,7 +61,7 @@ module _ (bins : ℕ) (ss : List Segment) (c : Cut bins ss) (b : ℕ) (l : b < b
             by-order b (segmentAt ss mode .end) (in-mode ss mode b starts)
             (λ i. by-order (suc mode) (length ss)
             (λ k.
-            let next = le-leb (segmentAt ss (suc mode) .start) b (omega (arith, c .adjacent mode k)) in
+            let next = le-leb (segmentAt ss (suc mode) .start) b (omega (arith, c .chain .adjacent mode k)) in
             absurd (omega (arith, largest-that-above started n (suc mode) (omega arith) next)))
             (λ k.
             let last : mode ≡ n = omega arith in
@@ -73,7 +73,7 @@ module _ (bins : ℕ) (ss : List Segment) (c : Cut bins ss) (b : ℕ) (l : b < b
             (λ i. absurd (omega (
               arith,
               mode-before ss m b t (omega arith),
-              c .adjacent m (omega arith),
+              c .chain .adjacent m (omega arith),
               starts-ascend bins ss c (suc m) mode i inside,
             )))
             (λ i. omega arith);

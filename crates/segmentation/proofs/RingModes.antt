@@ -1,64 +1,242 @@
--- A ring is finished if its opened line is, and its separators are all different. Assumes nothing.
-use Prim.Native.Nat.{ℕ, zero, suc, _+_, _-_, _%_, _≤_, _<_}
-use mathlib.Core.Path.{_≡_, refl, sym, ap, _∙_}
-use mathlib.Core.List.{List, [], _∷_, map, map-map}
+-- Every ring ends finished: what its opened line has, and each join round it keeps, holds of its modes. Its separators are all different. Assumes nothing.
+use Prim.Native.Nat.{ℕ, suc, _+_, _*_, _-_, _%_, _≤_, _<_}
+use mathlib.Core.Path.{_≡_, refl, sym, ap, subst, _∙_}
+use mathlib.Core.Bool.{Bool, true, false, _&&_}
+use mathlib.Core.List.{List, _++_, map, map-map}
+use mathlib.Core.Option.{some}
 use native.Mathlib.Omega.{arith}
+use native.Mathlib.Nat.{mod-lt}
+use lib.Dec.{ltb}
 use lib.ListN.{length, take, getD, length-map, List·getD-map}
-use lib.Seq.{take-at}
-use Rattle.lists.specs.Lists.{ExactlyOne}
-use Rattle.lists.proofs.Cases.{by-order, last-or}
+use lib.IntN.{pos}
+use lib.Signed.{ltZ}
+use borrow.Author.Tests.{ltb-true}
+use Rattle.lists.specs.Lists.{total, part, ExactlyOne}
+use Rattle.lists.proofs.Cases.{by-order}
+use Rattle.lists.proofs.Connectives.{both-true}
 use Rattle.lists.proofs.Counting.{count-different}
+use Rattle.lists.proofs.Sums.{total-at, total-more}
+use Rattle.lists.proofs.Rotations.{mod-below}
+use Rattle.pooling.specs.Blocks.{Direction}
 use Rattle.verdict.specs.Test.{Closeness}
-use Rattle.segmentation.specs.Segments.{Segment, segmentAt, inMode}
-use Rattle.segmentation.specs.Joining.{lineModes, lineSeparators}
-use Rattle.segmentation.specs.Ring.{opening, opened, ringBin, linePlace, ringModes, ringSeparators, inRingMode}
-use Rattle.segmentation.specs.Finished.{Cut, AlwaysFinished, RingAlwaysFinished, RingAlwaysListed}
-use Rattle.segmentation.proofs.RingPlaces.{opening-in, opening-lowest, opening-first, ring-length, ring-bins, ring-small, place-in, place-bin, ring-bins-differ}
+use Rattle.verdict.specs.Exactness.{VerdictSound}
+use Rattle.verdict.proofs.Sound.{verdict-sound}
+use Rattle.segmentation.specs.Segments.{Segment, segmentAt, binAt, isValley, firstSegments}
+use Rattle.segmentation.specs.Joining.{lineReader, Join, join, nextJoin, lineModes}
+use Rattle.segmentation.specs.Around.{nextRound, joinRound, ringJoins}
+use Rattle.segmentation.specs.Ring.{opening, opened, ringBin, linePlace, fromOpening, twoTurns, roundReader, ringModes, ringSeparators, inRingMode}
+use Rattle.segmentation.specs.Finished.{Cut, SingleHump, RingCut, FinishedRound, RingAlwaysFinished, RingAlwaysListed}
+use Rattle.segmentation.specs.Runs.{OnRing}
+use Rattle.segmentation.proofs.Kept.{Run, chain-ends, chain-rises, join-starts, hump-at, at-hump}
+use Rattle.segmentation.proofs.Settled.{join-all-keeps, settled, none-joinable}
+use Rattle.segmentation.proofs.FirstCut.{separatorAt, first-segment, first-neighbours}
+use Rattle.segmentation.proofs.Finishing.{part-length, kept, modes-cut, modes-humps}
+use Rattle.segmentation.proofs.RingPlaces.{opening-in, opening-lowest, opening-first, ring-length, ring-bins, place-in, place-bin, ring-bins-differ}
+use Rattle.segmentation.proofs.TwoTurns.{opening-length, opening-total, opening-bins, turns-length, turns-bins, opened-part, part-later, part-once, part-turn}
+use Rattle.segmentation.proofs.RoundKept.{RoundRun, round-of, round-run, round-below, ring-shortens, on-ring-kept, round-humps}
+use Rattle.segmentation.proofs.RoundOne.{round-one}
 
--- ---- the ring is finished: the line's last bin, the repeated one, is no bin's place
-pub ring-one-mode : (e : Closeness) (h : List ℕ) → 1 ≤ length h
-    → ((b : ℕ) → b < length (opened h) → ExactlyOne (length (lineModes e (opened h))) (λ m. inMode (lineModes e (opened h)) m b))
-    → (b : ℕ) → ExactlyOne (length (ringModes e h)) (λ m. inRingMode e h m b)
-unfolding ringModes inRingMode
-ring-one-mode e h n one b = one (linePlace h b) (omega (arith, ring-length h n, place-in h n b))
+-- ---- a separator's bin holds at most half of the ring's counts: it is the lowest bin, or below its neighbour
+abbrev Low : List ℕ → ℕ → Type 0
+Low turn s = 2 * binAt turn s ≤ total turn
 
-pub ring-finished : AlwaysFinished → RingAlwaysFinished
-ring-finished always e h two bins sum =
+two-members : (turn : List ℕ) (s : ℕ) → 0 < s → s < length turn → binAt turn (s - 1) + binAt turn s ≤ total turn
+two-members turn s a l =
+    let e : s - 1 + 1 ≡ s = omega arith in
+    omega (arith, total-at turn s l, total-more turn (s - 1) (omega arith), ap (λ (k : ℕ). total (take k turn)) e)
+
+module _ (h : List ℕ) (two : 2 ≤ length h) where
+  one : 1 ≤ length h
+  one = omega arith
+
+  opened-two : 2 ≤ length (opened h)
+  opened-two = omega (arith, ring-length h one)
+
+  opened-bin : (s : ℕ) → s < length h → binAt (opened h) s ≡ binAt (fromOpening h) s
+  opened-bin s l = ring-bins h one s (omega arith) ∙ sym (opening-bins h one s l)
+
+  ring-in : (i : ℕ) → ringBin h i < length h
+  unfolding ringBin
+  ring-in i = mod-lt (opening h + i) one
+
+  ring-zero : ringBin h 0 ≡ opening h
+  unfolding ringBin
+  ring-zero =
+      let e : opening h + 0 ≡ opening h = omega arith in
+      ap (λ (i : ℕ). i % length h) e ∙ mod-below (opening h) (length h) (opening-in h one)
+
+  lowest-low : Low (fromOpening h) 0
+  lowest-low =
+      let k : 1 < length (fromOpening h) = omega (arith, opening-length h one) in
+      omega (
+        arith,
+        two-members (fromOpening h) 1 (omega arith) k,
+        opening-bins h one 0 (omega arith),
+        opening-bins h one 1 two,
+        ap (binAt h) ring-zero,
+        opening-lowest h (ringBin h 1) (ring-in 1),
+      )
+
+  valley-low : (s : ℕ) → s < length h → 0 < s → isValley (opened h) s ≡ true → Low (fromOpening h) s
+  unfolding isValley
+  valley-low s l a t =
+      let b = ltb-true (binAt (opened h) s) (binAt (opened h) (s - 1)) (both-true (ltb (binAt (opened h) s) (binAt (opened h) (s - 1))) _ t .0) in
+      omega (arith, b, opened-bin s l, opened-bin (s - 1) (omega arith), two-members (fromOpening h) s a (omega (arith, opening-length h one)))
+
+  first-low : (m : ℕ) → m < length (firstSegments (opened h)) → Low (fromOpening h) (segmentAt (firstSegments (opened h)) m .start)
+  first-low m l =
+      let s = separatorAt (opened h) m in
+      let q : segmentAt (firstSegments (opened h)) m .start ≡ s = ap (λ (x : Segment). x .start) (first-segment (opened h) opened-two m l) in
+      let n = first-neighbours (opened h) opened-two m l in
+      let k : s < length h = omega (arith, n .below, n .within, ring-length h one) in
+      rw q (by-order 0 s (λ a. valley-low s k a (n .starts a)) (λ a. let z : s ≡ 0 = omega arith in rw z lowest-low))
+
+  module _ (e : Closeness) where
+    -- ---- the modes of the opened line, as modes of the ring
+    line-cut : Cut (length (opened h)) (lineModes e (opened h))
+    line-cut = modes-cut e (opened h) opened-two
+
+    line-low : (m : ℕ) → m < length (lineModes e (opened h)) → Low (fromOpening h) (segmentAt (lineModes e (opened h)) m .start)
+    line-low = kept e (opened h) opened-two LowStarts keeps first-low .1
+      where
+        LowStarts : List Segment → Type 0
+        LowStarts ss = (m : ℕ) → m < length ss → Low (fromOpening h) (segmentAt ss m .start)
+
+        keeps : (ss : List Segment) (j : Join) → nextJoin e (lineReader (opened h)) ss ≡ some j → Cut (length (opened h)) ss → Run ss j → LowStarts ss → LowStarts (join ss j)
+        keeps ss j q c v low m l = let r = join-starts ss j (c .chain) v m l in rw (r .2) (low (r .0) (r .1))
+
+    line-last : (m : ℕ) → m < length (lineModes e (opened h)) → segmentAt (lineModes e (opened h)) m .end ≤ length h
+    line-last m l =
+        let ss = lineModes e (opened h) in
+        let c = line-cut in
+        omega (arith, chain-ends ss (c .chain) m (length ss - 1) (omega arith) (omega arith), c .toLastBin, ring-length h one)
+
+    pub line-on-ring : OnRing (length h) (fromOpening h) (lineModes e (opened h))
+    line-on-ring =
+        let c = line-cut in
+        record {
+          cut = record {
+            nonEmpty = c .nonEmpty;
+            firstTurn = λ m l. omega (arith, c .chain .ascending m l, line-last m l);
+            onceRound = omega (arith, c .toLastBin, c .fromFirstBin, ring-length h one);
+            chain = c .chain;
+          };
+          low = line-low;
+        }
+
+    abbrev Humps : List Segment → Type 0
+    Humps ss = (m : ℕ) → m < length ss → SingleHump e (roundReader h) ss m
+
+    line-humps : Humps (lineModes e (opened h))
+    line-humps m l =
+        let ss = lineModes e (opened h) in
+        let s = segmentAt ss m in
+        let p = line-cut .chain .peakInside m l in
+        let last = line-last m l in
+        let k = hump-at e (lineReader (opened h)) ss m (modes-humps e (opened h) opened-two m l) in
+        at-hump e (roundReader h) ss m s refl (
+          rw (opened-part h one (s .start) (s .peak) (p .0) (omega arith)) at (k .0),
+          rw (opened-part h one (s .peak) (s .end) (p .1) last) at (k .1),
+        )
+
+    -- ---- what every join round the ring keeps, given that its modes lie on the ring, holds of its modes
+    pub kept-round : (P : List Segment → Type 0)
+        → ((ss : List Segment) (j : Join) → nextRound e (roundReader h) (length h) ss ≡ some j → OnRing (length h) (fromOpening h) ss → P ss → P (joinRound (length h) ss j))
+        → P (lineModes e (opened h)) → OnRing (length h) (fromOpening h) (ringModes e h) × P (ringModes e h)
+    unfolding ringModes
+    kept-round P keeps p =
+        join-all-keeps (ringJoins e (roundReader h) (length h)) (λ ss. OnRing (length h) (fromOpening h) ss × P ss)
+        (λ ss j q o. (on-ring-kept e (roundReader h) (length h) (fromOpening h) ss j q (o .0), keeps ss j q (o .0) (o .1)))
+        (length (lineModes e (opened h))) (lineModes e (opened h)) (line-on-ring, p)
+
+    read-later : (i j : ℕ) → i ≤ j → j < length h → roundReader h (i + length h) (j + length h) ≡ roundReader h i j
+    unfolding twoTurns
+    read-later i j l k = let n = opening-length h one in rw n at (part-later (fromOpening h) i j l (omega (arith, n)))
+
+    all-kept : OnRing (length h) (fromOpening h) (ringModes e h) × Humps (ringModes e h)
+    all-kept = kept-round Humps keeps line-humps
+      where
+        keeps : (ss : List Segment) (j : Join) → nextRound e (roundReader h) (length h) ss ≡ some j
+            → OnRing (length h) (fromOpening h) ss → Humps ss → Humps (joinRound (length h) ss j)
+        keeps ss j q o humps =
+            let r = round-of e (roundReader h) (length h) ss j q in
+            subst (λ (k : Join). ltZ (k .cost) (pos 0) ≡ true → RoundRun ss k → Humps (joinRound (length h) ss k)) (r .same)
+            (λ b w. round-humps e (roundReader h) (length h) read-later ss (o .cut) humps (r .first) (r .len) w b)
+            (round-below e (roundReader h) (length h) ss j q) (round-run e (roundReader h) (length h) ss j q)
+
+    pub ring-on-ring : OnRing (length h) (fromOpening h) (ringModes e h)
+    ring-on-ring = all-kept .0
+
+    pub ring-cut : RingCut (length h) (ringModes e h)
+    ring-cut = ring-on-ring .cut
+
+    ring-finished-round : FinishedRound e (roundReader h) (length h) (ringModes e h)
+    unfolding ringModes nextRound
+    ring-finished-round =
+        let line = lineModes e (opened h) in
+        let ss = ringModes e h in
+        let w = ringJoins e (roundReader h) (length h) in
+        record {
+          cut = ring-cut;
+          noneJoinable = λ i n s a b.
+              none-joinable e (roundReader h) _ true (length ss) i n (settled w (ring-shortens e (roundReader h) (length h)) (length line) line (omega arith)) a b (omega arith);
+          humps = all-kept .1;
+        }
+
+    -- the ring has no more modes than its opened line
+    pub ring-fewer : length (ringModes e h) ≤ length (lineModes e (opened h))
+    ring-fewer =
+        kept-round (λ ss. length ss ≤ length (lineModes e (opened h)))
+        (λ ss j q o l. omega (arith, ring-shortens e (roundReader h) (length h) .fewer ss j q)) (omega arith) .1
+
+    pub ring-one-mode : (b : ℕ) → ExactlyOne (length (ringModes e h)) (λ m. inRingMode e h m b)
+    unfolding inRingMode
+    ring-one-mode b = round-one (length h) (ringModes e h) ring-cut (linePlace h b) (place-in h one b)
+
+-- ---- behind every verdict
+module _ (e : Closeness) (w : Direction) (h : List ℕ) (two : 2 ≤ length h) (bins : length h ≤ 256) (counts : total h ≤ 65536) where
+  once-sound : (i j : ℕ) → i ≤ j → j < i + length h → j < length h + length h → VerdictSound e w (roundReader h i j)
+  unfolding twoTurns
+  once-sound i j a b c =
+      let n : 1 ≤ length h = omega arith in
+      let k = opening-length h n in
+      verdict-sound e w (roundReader h i j)
+      (omega (arith, part-length i j (twoTurns h) a (omega (arith, turns-length h n))))
+      (omega (arith, part-once (fromOpening h) i j a (omega arith) (omega arith), opening-total h))
+
+  turn-sound : (i : ℕ) → i < length h → Low (fromOpening h) i → VerdictSound e w (roundReader h i (i + length h))
+  unfolding twoTurns
+  turn-sound i a low =
+      let n : 1 ≤ length h = omega arith in
+      let turn = fromOpening h in
+      let k = opening-length h n in
+      verdict-sound e w (roundReader h i (i + length h))
+      (omega (arith, part-length i (i + length h) (twoTurns h) (omega arith) (omega (arith, turns-length h n))))
+      (omega (arith, ap (λ (z : ℕ). total (part i (i + z) (turn ++ turn))) k, part-turn turn i (omega arith), opening-total h))
+
+pub ring-finished : RingAlwaysFinished
+ring-finished e h two bins counts =
     let n : 1 ≤ length h = omega arith in
-    let small = ring-small h two bins sum in
-    let line = always e (opened h) (omega (arith, ring-length h n)) (small .bins) (small .counts) in
+    let on = ring-on-ring h two e in
     record {
       inRing = opening-in h n;
       lowest = opening-lowest h;
       lowestNumbered = opening-first h;
       openedLength = ring-length h n;
       openedBins = ring-bins h n;
+      roundLength = turns-length h n;
+      roundBins = turns-bins h n;
       place = λ b k. (place-in h n b, place-bin h n b k);
-      sameBin = λ b k. ring-bins h n (linePlace h b) (omega (arith, place-in h n b)) ∙ ap (λ (i : ℕ). getD h i 0) (place-bin h n b k);
-      line = line;
-      oneMode = λ b k. ring-one-mode e h n (line .finished .oneMode) b;
+      finished = ring-finished-round h two e;
+      oneMode = λ b k. ring-one-mode h two e b;
+      verdicts = λ w. once-sound e w h two bins counts;
+      fullTurns = λ w m l. turn-sound e w h two bins counts (segmentAt (ringModes e h) m .start) (on .cut .firstTurn m l) (on .low m l);
     }
 
--- ---- where the modes of a line start: they rise, and lie before the last bin
-module _ {bins : ℕ} {ss : List Segment} (cut : Cut bins ss) where
-  pub starts-rise : (i j : ℕ) → i < j → j < length ss → segmentAt ss i .start < segmentAt ss j .start
-  starts-rise i zero l m = absurd (omega arith)
-  starts-rise i (suc j) l m =
-      let step : segmentAt ss j .start < segmentAt ss (suc j) .start = omega (arith, cut .ascending j (omega arith), cut .adjacent j m) in
-      last-or (suc i) j l (λ k. omega (arith, starts-rise i j k (omega arith))) (λ z. let e : i ≡ j = omega arith in rw e step)
-
-  pub start-before-last : (i : ℕ) → i < length ss → suc (segmentAt ss i .start) < bins
-  start-before-last i l =
-      let last : ℕ = length ss - 1 in
-      let k : last < length ss = omega arith in
-      let a = cut .ascending last k in
-      let b = cut .toLastBin in
-      by-order i last (λ u. omega (arith, starts-rise i last u k)) (λ u. let e : i ≡ last = omega arith in rw e (omega arith))
-
 -- ---- the ring's separators are all different
-pub ring-listed : ((e : Closeness) (h : List ℕ) → 2 ≤ length h → Cut (length h) (lineModes e h)) → RingAlwaysListed
-unfolding ringSeparators ringModes
-ring-listed modes-cut e h two = record { same = λ b. refl; once = count-different (ringSeparators e h) (ringBin h 0) differ }
+pub ring-listed : RingAlwaysListed
+unfolding ringSeparators
+ring-listed e h two = record { same = λ b. refl; once = count-different (ringSeparators e h) (ringBin h 0) differ }
   where
     at : (i : ℕ) → getD (ringSeparators e h) i (ringBin h 0) ≡ ringBin h (segmentAt (ringModes e h) i .start)
     at i = List·getD-map (λ (s : Segment). ringBin h (s .start)) (ringModes e h) i (record { start = 0; peak = 0; end = 0 })
@@ -66,18 +244,12 @@ ring-listed modes-cut e h two = record { same = λ b. refl; once = count-differe
     differ : (i j : ℕ) → i < j → j < length (ringSeparators e h) → getD (ringSeparators e h) i (ringBin h 0) ≡ getD (ringSeparators e h) j (ringBin h 0) → ⊥
     differ i j l m q =
         let n : 1 ≤ length h = omega arith in
-        let all = ring-length h n in
-        let cut = modes-cut e (opened h) (omega arith) in
+        let cut = ring-cut h two e in
         let k : j < length (ringModes e h) = omega (arith, length-map (ringModes e h) (λ (s : Segment). ringBin h (s .start))) in
-        ring-bins-differ h n (segmentAt (ringModes e h) i .start) (segmentAt (ringModes e h) j .start) (starts-rise cut i j l k)
-        (omega (arith, start-before-last cut j k)) (sym (at i) ∙ q ∙ at j)
+        ring-bins-differ h n (segmentAt (ringModes e h) i .start) (segmentAt (ringModes e h) j .start) (chain-rises (ringModes e h) (cut .chain) i j l k)
+        (cut .firstTurn j k) (sym (at i) ∙ q ∙ at j)
 
--- they are the line's without the repeated end, in the ring's own numbers
-pub ring-separators : (e : Closeness) (h : List ℕ)
-    → ringSeparators e h ≡ map (λ (s : ℕ). (opening h + s) % length h) (take (length (ringModes e h)) (lineSeparators e (opened h)))
-unfolding ringSeparators ringModes ringBin lineSeparators
-ring-separators e h =
-    let ms = lineModes e (opened h) in
-    let starts : List ℕ = map (λ (s : Segment). s .start) ms in
-    sym (ap (map (λ (s : ℕ). (opening h + s) % length h)) (take-at starts ((length (opened h) - 1) ∷ []) (length ms) (length-map ms (λ (s : Segment). s .start)))
-    ∙ map-map (λ (s : ℕ). (opening h + s) % length h) (λ (s : Segment). s .start) ms)
+-- they are where the modes start, in the ring's own numbers
+pub ring-separators : (e : Closeness) (h : List ℕ) → ringSeparators e h ≡ map (λ (s : ℕ). (opening h + s) % length h) (map (λ (s : Segment). s .start) (ringModes e h))
+unfolding ringSeparators ringBin
+ring-separators e h = sym (map-map (λ (s : ℕ). (opening h + s) % length h) (λ (s : Segment). s .start) (ringModes e h))

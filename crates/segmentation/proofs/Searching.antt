@@ -1,4 +1,4 @@
--- The search for the next join: the stretches of a run lie within the line; how its cost is chosen; and the search from left to right. Assumes nothing.
+-- The search for the next join: how the cost of a run is chosen, and the search from left to right and over the lengths. Assumes nothing.
 use Prim.Native.Nat.{ℕ, zero, suc, _+_, _-_, _^_, _≤_, _<_}
 use mathlib.Core.Path.{_≡_, refl, sym, ap, subst, _∙_}
 use mathlib.Core.Bool.{Bool, true, false, cond, false≢true}
@@ -19,71 +19,12 @@ use Rattle.verdict.specs.Test.{Closeness, cost}
 use Rattle.pooling.specs.Limits.{Small}
 use Rattle.verdict.specs.Scratch.{Capped}
 use Rattle.segmentation.specs.declared.Found.{Found}
-use Rattle.segmentation.specs.Joining.{Join, Reader, lineReader, riseOf, fallOf, riseCost, fallCost, joinOf, cheapest, nextJoin}
+use Rattle.segmentation.specs.Joining.{Join, Reader, lineReader, riseOf, fallOf, riseCost, fallCost, joinOf, lastStart, cheapest, nextAmong}
 use Rattle.segmentation.specs.Segments.{Segment}
 use Rattle.segmentation.specs.Finished.{Cut}
 use Rattle.segmentation.specs.Held.{segmentsHeld, joinFound}
 use Rattle.segmentation.specs.Runs.{RunBelow, joinBy, betterOf, whereBelow}
 use Rattle.segmentation.proofs.Holding.{held-length, held-at}
-
--- ---- a stretch of a line: it is no larger than the line, and has a bin
-pub part-small : (i j : ℕ) (h : List ℕ) → i ≤ j → Small h → Small (part i j h)
-unfolding part
-part-small i j h l s = record {
-  bins = simp (length-take, length-drop) (omega (arith, s .bins));
-  counts = omega (arith, total-part-le i j h (omega arith), s .counts);
-}
-
-pub part-some : (i j : ℕ) (h : List ℕ) → i ≤ j → j < length h → 1 ≤ length (part i j h)
-unfolding part
-part-some i j h l k = simp (length-take, length-drop) (omega arith)
-
--- ---- a cut line's separators and peaks as the two lists have them
-module _ (s p : List ℕ) (bins n : ℕ) (cut : Cut bins (segmentsHeld s p 0 n)) where
-  below-count : (m : ℕ) → m < n → m < length (segmentsHeld s p 0 n)
-  below-count m h = omega (arith, held-length s p 0 n)
-
-  ascends : (m : ℕ) → m < n → getD s m 0 < getD s (suc m) 0
-  ascends m h = rw (held-at s p n m h) at (cut .ascending m (below-count m h))
-
-  pub peak-between : (m : ℕ) → m < n → (getD s m 0 ≤ getD p m 0) × (getD p m 0 ≤ getD s (suc m) 0)
-  peak-between m h = rw (held-at s p n m h) at (cut .peakInside m (below-count m h))
-
-  pub separators-rise : (i k : ℕ) → i + k ≤ n → getD s i 0 ≤ getD s (i + k) 0
-  separators-rise i zero h = let e : i + 0 ≡ i = omega arith in omega (arith, ap (λ (m : ℕ). getD s m 0) e)
-  separators-rise i (suc k) h =
-      let e : i + suc k ≡ suc (i + k) = omega arith in
-      omega (arith, separators-rise i k (omega arith), ascends (i + k) (omega arith), ap (λ (m : ℕ). getD s m 0) e)
-
-  last-separator : suc (getD s n 0) ≡ bins
-  last-separator =
-      let one = cut .nonEmpty in
-      let e : suc (n - 1) ≡ n = omega (arith, held-length s p 0 n) in
-      let last = rw held-length at (cut .toLastBin) in
-      omega (arith, rw (held-at s p n (n - 1) (omega arith)) at last, ap (λ (m : ℕ). getD s m 0) e)
-
-  pub inside : (i : ℕ) → i ≤ n → getD s i 0 < bins
-  inside i h =
-      let e : i + (n - i) ≡ n = omega arith in
-      omega (arith, last-separator, separators-rise i (n - i) (omega arith), ap (λ (m : ℕ). getD s m 0) e)
-
-  -- ---- the two stretches of the run of len segments from number i lie within the line
-  module _ (i len : ℕ) (one : 1 ≤ len) (fit : i + len ≤ n) where
-    pub fall-inside : (getD p i 0 ≤ getD s (i + len) 0) × (getD s (i + len) 0 < bins)
-    fall-inside =
-        let e : suc i + (len - 1) ≡ i + len = omega arith in (
-          omega (arith, peak-between i (omega arith), separators-rise (suc i) (len - 1) (omega arith), ap (λ (m : ℕ). getD s m 0) e),
-          inside (i + len) fit,
-        )
-
-    pub rise-inside : (getD s i 0 ≤ getD p (i + len - 1) 0) × (getD p (i + len - 1) 0 < bins)
-    rise-inside =
-        let e : i + (len - 1) ≡ i + len - 1 = omega arith in
-        let k : suc (i + len - 1) ≡ i + len = omega arith in
-        let b = peak-between (i + len - 1) (omega arith) in (
-          omega (arith, b, separators-rise i (len - 1) (omega arith), ap (λ (m : ℕ). getD s m 0) e),
-          omega (arith, b, inside (i + len) fit, ap (λ (m : ℕ). getD s m 0) k),
-        )
 
 -- the run that the definition has, by its two costs
 pub run-is : (e : Closeness) (h s p : List ℕ) (n i len : ℕ) → 1 ≤ len → i + len ≤ n
@@ -176,46 +117,47 @@ searched-more j i b r s k = rw add-one (go (ltZ (j i .cost) (b .join .cost)) ref
         let left : ltZ (j i .cost) (leastSoFar j i) ≡ false = rw (s .least) at e in
         rw no (record { same = rw left (s .same); least = rw left (s .least); small = s .small })
 
--- of all runs of len segments
-pub searched-all : (e : Closeness) (read : Reader) (s p : List ℕ) (n len : ℕ)
-    → soFar (λ i. joinOf e read (segmentsHeld s p 0 n) i len) (suc (n - len)) ≡ whereBelow (cheapest e read (segmentsHeld s p 0 n) len)
+-- of the runs that start at number 0, 1, .., last
+pub searched-to : (e : Closeness) (read : Reader) (ss : List Segment) (last len : ℕ)
+    → soFar (λ i. joinOf e read ss i len) (suc last) ≡ whereBelow (cheapest e read ss last len)
 unfolding cheapest
-searched-all e read s p n len = rw held-length (found-lowest (λ (r : Join). r .cost) (pos 0) (λ i. joinOf e read (segmentsHeld s p 0 n) i len) (n - len))
+searched-to e read ss last len = found-lowest (λ (r : Join). r .cost) (pos 0) (λ i. joinOf e read ss i len) last
 
--- ---- the search over the lengths n, n + 1, .., up to the number of segments
-module _ (e : Closeness) (read : Reader) (ss : List Segment) where
+-- ---- the search over the lengths n, n + 1, .., count, where `pick` gives the cheapest run of each
+module _ (pick : ℕ → Join) (count : ℕ) where
   -- what the lengths from n on give
   abbrev pub fromLength : ℕ → Option Join
-  fromLength n = firstThat (λ (j : Join). ltZ (j .cost) (pos 0)) (map (cheapest e read ss) (numbers n (suc (length ss) - n)))
+  fromLength n = firstThat (λ (j : Join). ltZ (j .cost) (pos 0)) (map pick (numbers n (suc count - n)))
 
-  pub from-two : nextJoin e read ss ≡ fromLength 2
-  unfolding nextJoin
-  from-two = let q : length ss - 1 ≡ suc (length ss) - 2 = omega arith in rw q refl
-
-  one-length : (n : ℕ) → n ≤ length ss → fromLength n ≡ cond (ltZ (cheapest e read ss n .cost) (pos 0)) (some (cheapest e read ss n)) (fromLength (n + 1))
+  one-length : (n : ℕ) → n ≤ count → fromLength n ≡ cond (ltZ (pick n .cost) (pos 0)) (some (pick n)) (fromLength (n + 1))
   unfolding firstThat numbers
   one-length n h =
-      let q : suc (length ss) - n ≡ suc (suc (length ss) - (n + 1)) = omega arith in
+      let q : suc count - n ≡ suc (suc count - (n + 1)) = omega arith in
       rw (q, add-one) refl
 
-  pub length-found : (n : ℕ) (b : Found) → n ≤ length ss → joinFound (b .found) (b .join) ≡ whereBelow (cheapest e read ss n) → b .found ≡ true
+  pub length-found : (n : ℕ) (b : Found) → n ≤ count → joinFound (b .found) (b .join) ≡ whereBelow (pick n) → b .found ≡ true
       → joinFound (b .found) (b .join) ≡ fromLength n
-  length-found n b h s t = go (ltZ (cheapest e read ss n .cost) (pos 0)) refl
+  length-found n b h s t = go (ltZ (pick n .cost) (pos 0)) refl
     where
-      go : (u : Bool) → ltZ (cheapest e read ss n .cost) (pos 0) ≡ u → joinFound (b .found) (b .join) ≡ fromLength n
+      go : (u : Bool) → ltZ (pick n .cost) (pos 0) ≡ u → joinFound (b .found) (b .join) ≡ fromLength n
       go true k =
-          let z : joinFound (b .found) (b .join) ≡ some (cheapest e read ss n) = rw k at s in
+          let z : joinFound (b .found) (b .join) ≡ some (pick n) = rw k at s in
           z ∙ sym (one-length n h ∙ rw k refl)
       go false k = let z : some (b .join) ≡ none = rw (t, k) at s in absurd (Option·some-ne-none (b .join) z)
 
-  pub length-passed : (n : ℕ) (b : Found) → n ≤ length ss → joinFound (b .found) (b .join) ≡ whereBelow (cheapest e read ss n) → b .found ≡ false
+  pub length-passed : (n : ℕ) (b : Found) → n ≤ count → joinFound (b .found) (b .join) ≡ whereBelow (pick n) → b .found ≡ false
       → fromLength n ≡ fromLength (n + 1)
-  length-passed n b h s t = go (ltZ (cheapest e read ss n .cost) (pos 0)) refl
+  length-passed n b h s t = go (ltZ (pick n .cost) (pos 0)) refl
     where
-      go : (u : Bool) → ltZ (cheapest e read ss n .cost) (pos 0) ≡ u → fromLength n ≡ fromLength (n + 1)
-      go true k = let z : none ≡ some (cheapest e read ss n) = rw (t, k) at s in absurd (Option·none-ne-some (cheapest e read ss n) z)
+      go : (u : Bool) → ltZ (pick n .cost) (pos 0) ≡ u → fromLength n ≡ fromLength (n + 1)
+      go true k = let z : none ≡ some (pick n) = rw (t, k) at s in absurd (Option·none-ne-some (pick n) z)
       go false k = one-length n h ∙ rw k refl
 
-  pub no-length : (n : ℕ) → length ss < n → fromLength n ≡ none
+  pub no-length : (n : ℕ) → count < n → fromLength n ≡ none
   unfolding firstThat numbers
-  no-length n h = let q : suc (length ss) - n ≡ 0 = omega arith in rw q refl
+  no-length n h = let q : suc count - n ≡ 0 = omega arith in rw q refl
+
+pub from-two : (e : Closeness) (read : Reader) (all : List Segment) (round : Bool) (count : ℕ)
+    → nextAmong e read all round count ≡ fromLength (λ n. cheapest e read all (lastStart round count n) n) count 2
+unfolding nextAmong
+from-two e read all round count = let q : count - 1 ≡ suc count - 2 = omega arith in rw q refl

@@ -1,4 +1,4 @@
--- D3 for one histogram: no run of modes is joinable, each mode is a single hump, each bin lies in exactly one mode,
+-- D3 for one histogram: no run of modes is joinable, along the line or all round the ring, each mode is a single hump, each bin lies in exactly one mode,
 -- and every verdict has its fit behind it. Assumes nothing.
 use Prim.Native.Nat.{ℕ, suc, _+_, _-_, _≤_, _<_}
 use mathlib.Core.Path.{_≡_}
@@ -15,16 +15,29 @@ use Rattle.verdict.specs.Test.{Closeness, rejected}
 use Rattle.verdict.specs.Exactness.{VerdictSound}
 use Rattle.segmentation.specs.Segments.{Segment, segmentAt, binAt, inMode}
 use Rattle.segmentation.specs.Joining.{Reader, lineReader, riseOf, fallOf, riseCost, fallCost, lineModes, lineSeparators}
-use Rattle.segmentation.specs.Ring.{opening, opened, ringBin, linePlace, ringModes, ringSeparators, inRingMode}
+use Rattle.segmentation.specs.Around.{twice}
+use Rattle.segmentation.specs.Ring.{opening, opened, ringBin, linePlace, twoTurns, roundReader, ringModes, ringSeparators, inRingMode}
 
--- a line of `bins` bins is cut into the modes ss: they follow one another from bin 0 to the last bin, and each has its peak between its separators
+-- the segments ss follow one another, and each has its peak between its separators
+pub record Chain (ss : List Segment) : Type 0 where
+  pub adjacent : (m : ℕ) → suc m < length ss → segmentAt ss m .end ≡ segmentAt ss (suc m) .start
+  pub ascending : (m : ℕ) → m < length ss → segmentAt ss m .start < segmentAt ss m .end
+  pub peakInside : (m : ℕ) → m < length ss → (segmentAt ss m .start ≤ segmentAt ss m .peak) × (segmentAt ss m .peak ≤ segmentAt ss m .end)
+
+-- a line of `bins` bins is cut into the modes ss: they follow one another from bin 0 to the last bin
 pub record Cut (bins : ℕ) (ss : List Segment) : Type 0 where
   pub nonEmpty : 0 < length ss
   pub fromFirstBin : segmentAt ss 0 .start ≡ 0
   pub toLastBin : suc (segmentAt ss (length ss - 1) .end) ≡ bins
-  pub adjacent : (m : ℕ) → suc m < length ss → segmentAt ss m .end ≡ segmentAt ss (suc m) .start
-  pub ascending : (m : ℕ) → m < length ss → segmentAt ss m .start < segmentAt ss m .end
-  pub peakInside : (m : ℕ) → m < length ss → (segmentAt ss m .start ≤ segmentAt ss m .peak) × (segmentAt ss m .peak ≤ segmentAt ss m .end)
+  pub chain : Chain ss
+
+-- R3, R7: a ring of `bins` bins is cut into the modes ss, by places from the opening on: they follow one another once round, each starts in the first turn, and
+-- the last one ends where the first one starts, a turn later
+pub record RingCut (bins : ℕ) (ss : List Segment) : Type 0 where
+  pub nonEmpty : 0 < length ss
+  pub firstTurn : (m : ℕ) → m < length ss → segmentAt ss m .start < bins
+  pub onceRound : segmentAt ss (length ss - 1) .end ≡ segmentAt ss 0 .start + bins
+  pub chain : Chain ss
 
 -- S9: neither the rise of mode m nor its fall is rejected
 pub record SingleHump (e : Closeness) (read : Reader) (ss : List Segment) (m : ℕ) : Type 0 where
@@ -46,7 +59,15 @@ pub record LineFinished (e : Closeness) (h : List ℕ) : Type 0 where
   -- S10: the listed separators rise
   pub rising : (i : ℕ) → suc i < length (lineSeparators e h) → binAt (lineSeparators e h) i < binAt (lineSeparators e h) (suc i)
 
--- a ring is judged on its opened line; its own bins are those of the line without the repeated end
+-- a ring of `bins` bins whose modes are ss; `read` gives the bins of its stretches, read round
+pub record FinishedRound (e : Closeness) (read : Reader) (bins : ℕ) (ss : List Segment) : Type 0 where
+  pub cut : RingCut bins ss
+  -- R4: no run of two or more modes is joinable, whatever mode i it starts with and whatever its length n up to all: the last mode and the first are neighbours
+  pub noneJoinable : (i n : ℕ) → i < length ss → 2 ≤ n → n ≤ length ss
+      → (pos 0 ≤ℤ riseCost e read (twice bins ss) i n) × (pos 0 ≤ℤ fallCost e read (twice bins ss) i n)
+  -- R7: rise and fall are read round
+  pub humps : (m : ℕ) → m < length ss → SingleHump e read ss m
+
 pub record RingFinished (e : Closeness) (h : List ℕ) : Type 0 where
   -- R1: the opening is the lowest bin, the first if there are several
   pub inRing : opening h < length h
@@ -55,13 +76,20 @@ pub record RingFinished (e : Closeness) (h : List ℕ) : Type 0 where
   -- R2: the line is the ring from that bin on, with that bin repeated at the end
   pub openedLength : length (opened h) ≡ suc (length h)
   pub openedBins : (i : ℕ) → i ≤ length h → binAt (opened h) i ≡ binAt h (ringBin h i)
-  -- each bin of the ring has a place on the line, and stands there
+  -- R3: what is read round is the ring from that bin on, two turns of it
+  pub roundLength : length (twoTurns h) ≡ length h + length h
+  pub roundBins : (i : ℕ) → i < length h + length h → binAt (twoTurns h) i ≡ binAt h (ringBin h i)
+  -- each bin of the ring has a place in the first turn
   pub place : (b : ℕ) → b < length h → (linePlace h b < length h) × (ringBin h (linePlace h b) ≡ b)
-  pub sameBin : (b : ℕ) → b < length h → binAt (opened h) (linePlace h b) ≡ binAt h b
-  pub line : LineFinished e (opened h)
+  pub finished : FinishedRound e (roundReader h) (length h) (ringModes e h)
   pub oneMode : (b : ℕ) → b < length h → ExactlyOne (length (ringModes e h)) (λ m. inRingMode e h m b)
+  -- what stands behind the verdict of every stretch, in either direction, that reads no bin twice, and of every full turn from a separator; the stretches of
+  -- the runs and of the humps are among them
+  pub verdicts : (w : Direction) (i j : ℕ) → i ≤ j → j < i + length h → j < length h + length h → VerdictSound e w (roundReader h i j)
+  pub fullTurns : (w : Direction) (m : ℕ) → m < length (ringModes e h)
+      → VerdictSound e w (roundReader h (segmentAt (ringModes e h) m .start) (segmentAt (ringModes e h) m .start + length h))
 
--- R5: the list is a permutation of the ring's separators, and has none of them twice
+-- R8: the list is a permutation of the ring's separators, and has none of them twice
 pub record ListsOnce (e : Closeness) (h : List ℕ) (list : List ℕ) : Type 0 where
   pub same : (b : ℕ) → countIf (eqb b) list ≡ countIf (eqb b) (ringSeparators e h)
   pub once : (b : ℕ) → countIf (eqb b) list ≤ 1

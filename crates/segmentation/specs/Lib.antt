@@ -3,6 +3,7 @@ pub mod Joining
 pub mod Held
 pub mod Inside
 pub mod Walk
+pub mod Around
 pub mod Ring
 pub mod Finished
 pub mod Loose

@@ -1,27 +1,78 @@
 -- What the search for the next join relies on. No public promise cites it. Assumes nothing.
-use Prim.Native.Nat.{ℕ, _^_, _≤_, _<_}
+use Prim.Native.Nat.{ℕ, suc, _+_, _*_, _-_, _^_, _≤_, _<_}
 use mathlib.Core.Path.{_≡_}
-use mathlib.Core.Bool.{true, false, cond}
-use mathlib.Core.List.{List}
+use mathlib.Core.Bool.{Bool, true, false, cond}
+use mathlib.Core.List.{List, _++_}
 use mathlib.Core.Option.{Option, none, some}
-use lib.ListN.{length}
+use lib.ListN.{length, take, drop, getD}
 use lib.IntN.{ℤ, pos}
 use lib.Signed.{ltZ, mag, _≤ℤ_}
+use Rattle.lists.specs.Lists.{total, part}
 use Rattle.logarithm.specs.Sheet.{logSheet}
 use Rattle.verdict.specs.Settings.{lastSetting}
 use Rattle.pooling.specs.Limits.{Small}
 use Rattle.segmentation.specs.declared.Found.{Found}
-use Rattle.segmentation.specs.Joining.{Join}
-use Rattle.segmentation.specs.Finished.{Cut}
+use Rattle.segmentation.specs.Segments.{Segment, segmentAt, binAt}
+use Rattle.segmentation.specs.Joining.{Join, join, lastStart}
+use Rattle.segmentation.specs.Around.{startingAt}
+use Rattle.segmentation.specs.Finished.{RingCut}
 use Rattle.segmentation.specs.Held.{segmentsHeld}
 
--- a line h, two lists that hold its n segments, and the sheet of logarithms
-pub record LineHeld (sheet : List ℕ) (setting : ℕ) (h separators peaks : List ℕ) (n : ℕ) : Type 0 where
+-- the sheet of logarithms, a setting in range, and two lists with room for so many segments
+pub record Prepared (sheet : List ℕ) (setting : ℕ) (separators peaks : List ℕ) (held : ℕ) : Type 0 where
   pub logs : sheet ≡ logSheet
-  pub small : Small h
   pub close : setting ≤ lastSetting
-  pub places : (n < length separators) × (n ≤ length peaks)
-  pub cut : Cut (length h) (segmentsHeld separators peaks 0 n)
+  pub places : (held < length separators) × (held ≤ length peaks)
+
+-- the stretch from bin i to bin j lies within h, and is small enough to be tested
+pub record Within (h : List ℕ) (i j : ℕ) : Type 0 where
+  pub ends : (i ≤ j) × (j < length h)
+  pub small : Small (part i j h)
+
+-- so do both stretches of the run of len segments from number i
+pub record RunInside (h separators peaks : List ℕ) (i len : ℕ) : Type 0 where
+  pub fall : Within h (getD peaks i 0) (getD separators (i + len) 0)
+  pub rise : Within h (getD separators i 0) (getD peaks (i + len - 1) 0)
+
+-- of the runs of len segments that start at number 0, 1, .., starts - 1
+abbrev pub RunsInside : (h separators peaks : List ℕ) (starts len : ℕ) → Type 0
+RunsInside h separators peaks starts len = (i : ℕ) → i < starts → RunInside h separators peaks i len
+
+-- how many segments are held for a search among n: those of a ring twice over
+abbrev pub heldCount : (round : Bool) (n : ℕ) → ℕ
+heldCount round n = cond round (n + n) n
+
+-- of all runs of two or more of n segments
+abbrev pub AllInside : (h separators peaks : List ℕ) (round : Bool) (n : ℕ) → Type 0
+AllInside h separators peaks round n = (len : ℕ) → 2 ≤ len → len ≤ n → RunsInside h separators peaks (suc (lastStart round n len)) len
+
+-- what the joins round a ring of `bins` bins keep, whose bins from the opening on are `turn`: its modes go once round, and the bin of each separator holds at
+-- most half of the counts, so that a full turn, which has that bin twice, is no larger than an opened line
+pub record OnRing (bins : ℕ) (turn : List ℕ) (ss : List Segment) : Type 0 where
+  pub cut : RingCut bins ss
+  pub low : (m : ℕ) → m < length ss → 2 * binAt turn (segmentAt ss m .start) ≤ total turn
+
+-- two turns of such a ring of `bins` bins, and two lists that hold its n modes, with room for them twice over
+pub record RingHeld (sheet : List ℕ) (setting : ℕ) (round separators peaks : List ℕ) (n bins : ℕ) : Type 0 where
+  pub turn : List ℕ
+  pub turns : round ≡ turn ++ turn
+  pub asLong : length turn ≡ bins
+  pub limits : (bins ≤ 256) × (total turn ≤ 65536)
+  pub prepared : Prepared sheet setting separators peaks (n + n)
+  pub onRing : OnRing bins turn (segmentsHeld separators peaks 0 n)
+
+-- the n members from number `from` on are no larger than a bound
+abbrev pub EachTo : (bound : ℕ) (xs : List ℕ) (from n : ℕ) → Type 0
+EachTo bound xs from n = (k : ℕ) → k < n → getD xs (from + k) 0 ≤ bound
+
+-- the n members from number `from` on stand again behind them, `by` more each; they and what comes before them stay
+pub record Repeated (before after : List ℕ) (from n by : ℕ) : Type 0 where
+  pub kept : (m : ℕ) → m < from + n → getD after m 0 ≡ getD before m 0
+  pub again : (k : ℕ) → k < n → getD after (from + n + k) 0 ≡ getD before (from + k) 0 + by
+
+-- a run joined among n modes that are held twice over
+unfoldable pub joinTwice : (all : List Segment) (n : ℕ) → Join → List Segment
+joinTwice all n j = let past = j .first + j .len - n in join (take n (drop past all)) (startingAt (j .first - past) j)
 
 -- what the code gives for the run j when only a cost below `least` matters: j itself if its cost is below `least`, else a run whose cost is not
 pub record RunBelow (least : ℤ) (j r : Join) : Type 0 where

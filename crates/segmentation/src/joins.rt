@@ -11,12 +11,12 @@ ghost use lib.Seq.{paste};
 ghost use Rattle.logarithm.specs.Sheet.{logSheet};
 ghost use Rattle.verdict.specs.Settings.{lastSetting, closenessOf};
 ghost use Rattle.pooling.specs.Limits.{Small};
-ghost use Rattle.segmentation.specs.Joining.{lineReader, join, joinAll, lineModes};
+ghost use Rattle.segmentation.specs.Joining.{lineReader, join, lineJoins, joinAll, lineModes};
 ghost use Rattle.segmentation.specs.Held.{segmentsHeld};
 ghost use Rattle.segmentation.specs.Finished.{Cut};
 
 // Moves the members from place `from` up to, but not including, `end` down to the places from `to` on.
-fn shift(a: &mut [u32], to: usize, from: usize, end: usize)
+pub fn shift(a: &mut [u32], to: usize, from: usize, end: usize)
     requires { ⌜ (to ≤ from) × (from ≤ end) × (end ≤ length (now a)) ⌝ }
     ensures { λ _. ⌜ now (a .exit) ≡ paste (now (a .entry)) to (drop from (now (a .entry))) (end - from) ⌝ }
 {
@@ -43,7 +43,7 @@ pub fn apply(separators: &mut [u32], peaks: &mut [u32], n: usize, j: Join) -> us
     n - fewer
 }
 
-// Joins until no run is joinable. Returns how many segments there are then.
+// Joins the segments of a line until no run is joinable. Returns how many there are then.
 pub fn join_all(
     sheet: &[u32; SHEET_SIZE],
     h: &[u32],
@@ -57,12 +57,12 @@ pub fn join_all(
     requires { ⌜ (n < length (now separators)) × (n ≤ length (now peaks)) ⌝ }
     requires { ⌜ Cut (length (now h)) (segmentsHeld (now separators) (now peaks) 0 n) ⌝ }
     ensures { λ r. ⌜ (segmentsHeld (now (separators .exit)) (now (peaks .exit)) 0 r
-        ≡ joinAll n (closenessOf setting) (lineReader (now (h .entry))) (segmentsHeld (now (separators .entry)) (now (peaks .entry)) 0 n))
+        ≡ joinAll n (lineJoins (closenessOf setting) (lineReader (now (h .entry)))) (segmentsHeld (now (separators .entry)) (now (peaks .entry)) 0 n))
         × (r ≤ n) ⌝ }
 {
     let mut left = n;
     loop {
-        let next = next_join(sheet, h, setting, separators, peaks, left);
+        let next = next_join(sheet, h, setting, separators, peaks, left, false);
         if !next.found {
             return left;
         }

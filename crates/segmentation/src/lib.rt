@@ -3,11 +3,12 @@ mod first;
 mod joins;
 mod listing;
 mod rings;
+mod rounds;
 mod runs;
 
 pub use listing::line_separators;
+pub use listing::ring_modes;
 pub use listing::ring_separators;
-pub use rings::open_ring;
 
 // A run of len segments, from segment number `first` on, that may be joined: whether by its rise or by its fall, and at what cost.
 pub struct Join {
@@ -21,4 +22,10 @@ pub struct Join {
 pub struct Found {
     pub found: bool,
     pub join: Join,
+}
+
+// A ring by its modes: the bin at which it is opened, and how many modes there are.
+pub struct Opened {
+    pub opening: usize,
+    pub modes: usize,
 }

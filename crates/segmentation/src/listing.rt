@@ -1,16 +1,25 @@
 // The separators of a line and of a ring, in the first places of a lent list.
+use crate::Opened;
 use crate::joins::line;
-use crate::rings::open_ring;
+use crate::rings::lowest_bin;
+use crate::rings::ring;
 use crate::rings::ring_numbers;
+use crate::rings::write_turns;
 use pooling::MOST_BINS;
 ghost use mathlib.Core.Path.{_≡_};
+ghost use mathlib.Core.List.{map};
 ghost use Prim.Native.Nat.{_≤_};
 ghost use lib.ListN.{length, take};
 ghost use Rattle.lists.specs.Lists.{total, over};
 ghost use Rattle.verdict.specs.Settings.{lastSetting, closenessOf};
 ghost use Rattle.pooling.specs.Limits.{Small};
 ghost use Rattle.segmentation.specs.Joining.{lineSeparators};
-ghost use Rattle.segmentation.specs.Ring.{ringSeparators};
+ghost use Rattle.segmentation.specs.Ring.{opening, ringModes, ringSeparators};
+
+// The bins of the largest ring, of two turns of it, and as many members as are held of its modes twice over.
+const MOST_RING_BINS: usize = MOST_BINS - 1;
+const TWO_TURNS: usize = MOST_RING_BINS + MOST_RING_BINS;
+const HELD_TWICE: usize = MOST_BINS + MOST_BINS;
 
 // Copies the first n members of one list into the first places of another.
 fn copy_first(source: &[u32], n: usize, list: &mut [u32])
@@ -38,6 +47,27 @@ pub fn line_separators(h: &[u32], setting: u32, list: &mut [u32]) -> u32
     (n + 1) as u32
 }
 
+// Writes where the modes of a ring start, by places from its opening on. Returns the opening, and how many modes there are.
+pub fn ring_modes(h: &[u32], setting: u32, places: &mut [u32]) -> Opened
+    requires { ⌜ (2 ≤ length (now h)) × (length (now h) ≤ 256) × (total (now h) ≤ 65536) ⌝ }
+    requires { ⌜ (setting ≤ lastSetting) × (length (now h) ≤ length (now places)) ⌝ }
+    ensures { λ r. ⌜ (r .opening ≡ opening (now (h .entry))) × (r .modes ≡ length (ringModes (closenessOf setting) (now (h .entry))))
+        × (now (places .exit) ≡ over (map (λ s. s .start) (ringModes (closenessOf setting) (now (h .entry)))) (now (places .entry))) ⌝ }
+{
+    let mut round = [0u32; TWO_TURNS];
+    let mut separators = [0u32; HELD_TWICE];
+    let mut peaks = [0u32; HELD_TWICE];
+    let opening = lowest_bin(h);
+    let turns = h.len() + h.len();
+    write_turns(h, opening, &mut round);
+    let n = ring(h, &round[..turns], setting, &mut separators, &mut peaks);
+    copy_first(&separators, n, places);
+    Opened {
+        opening: opening,
+        modes: n,
+    }
+}
+
 // Writes the separators of a ring, from its opening on. Returns how many there are.
 pub fn ring_separators(h: &[u32], setting: u32, list: &mut [u32]) -> u32
     requires { ⌜ (2 ≤ length (now h)) × (length (now h) ≤ 256) × (total (now h) ≤ 65536) ⌝ }
@@ -45,13 +75,8 @@ pub fn ring_separators(h: &[u32], setting: u32, list: &mut [u32]) -> u32
     ensures { λ r. ⌜ (r ≡ length (ringSeparators (closenessOf setting) (now (h .entry))))
         × (now (list .exit) ≡ over (ringSeparators (closenessOf setting) (now (h .entry))) (now (list .entry))) ⌝ }
 {
-    let mut opened = [0u32; MOST_BINS];
-    let mut separators = [0u32; MOST_BINS];
-    let mut peaks = [0u32; MOST_BINS];
-    let bins = h.len();
-    let opening = open_ring(h, &mut opened);
-    let end = bins + 1;
-    let n = line(&opened[..end], setting, &mut separators, &mut peaks);
-    ring_numbers(&separators, n, opening, bins, list);
-    n as u32
+    let mut places = [0u32; MOST_RING_BINS];
+    let found = ring_modes(h, setting, &mut places);
+    ring_numbers(&places, found.modes, found.opening, h.len(), list);
+    found.modes as u32
 }

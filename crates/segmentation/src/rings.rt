@@ -1,13 +1,20 @@
-// The ring: its opening, its opened line, and the line's separators by the ring's own bin numbers.
+// The ring: its opening, its turns from there on, its modes, and their places by the ring's own bin numbers.
+use crate::first::first_segments;
+use crate::joins::join_all;
+use crate::rounds::join_round;
+use logarithm::copied_sheet;
 ghost use mathlib.Core.Path.{_≡_};
 ghost use mathlib.Core.List.{map};
-ghost use Prim.Native.Nat.{_+_, _%_, _≤_, _<_};
+ghost use Prim.Native.Nat.{_+_, _*_, _%_, _≤_, _<_};
 ghost use lib.ListN.{length, take};
-ghost use Rattle.lists.specs.Lists.{over};
-ghost use Rattle.segmentation.specs.Ring.{opening, opened};
+ghost use Rattle.lists.specs.Lists.{total, over};
+ghost use Rattle.pooling.specs.Limits.{mostBins};
+ghost use Rattle.verdict.specs.Settings.{lastSetting, closenessOf};
+ghost use Rattle.segmentation.specs.Held.{segmentsHeld};
+ghost use Rattle.segmentation.specs.Ring.{opening, twoTurns, ringModes};
 
 // The lowest bin; of several, the one with the lowest number.
-fn lowest_bin(h: &[u32]) -> usize
+pub fn lowest_bin(h: &[u32]) -> usize
     requires { ⌜ 1 ≤ length (now h) ⌝ }
     ensures { λ r. ⌜ r ≡ opening (now (h .entry)) ⌝ }
 {
@@ -22,39 +29,47 @@ fn lowest_bin(h: &[u32]) -> usize
     lowest
 }
 
-// Writes the ring into the first places of `line`, from bin `first` once round and back to that bin.
-fn write_opened(h: &[u32], first: usize, line: &mut [u32])
-    requires { ⌜ (1 ≤ length (now h)) × (length (now h) ≤ 256) × (length (now h) < length (now line)) ⌝ }
+// Writes two turns of the ring, from bin `first` on, into the first places of `round`.
+pub fn write_turns(h: &[u32], first: usize, round: &mut [u32])
+    requires { ⌜ (1 ≤ length (now h)) × (length (now h) ≤ 256) × (length (now h) + length (now h) ≤ length (now round)) ⌝ }
     requires { ⌜ first ≡ opening (now h) ⌝ }
-    ensures { λ _. ⌜ now (line .exit) ≡ over (opened (now (h .entry))) (now (line .entry)) ⌝ }
+    ensures { λ _. ⌜ now (round .exit) ≡ over (twoTurns (now (h .entry))) (now (round .entry)) ⌝ }
 {
     let bins = h.len();
     let mut i = 0;
-    while i <= bins {
-        line[i] = h[(first + i) % bins];
+    while i < bins + bins {
+        round[i] = h[(first + i) % bins];
         i += 1;
     }
 }
 
-// Opens the ring h: writes its line into the first places of `line`, and returns the bin at which it is opened.
-pub fn open_ring(h: &[u32], line: &mut [u32]) -> usize
-    requires { ⌜ (2 ≤ length (now h)) × (length (now h) ≤ 256) × (length (now h) < length (now line)) ⌝ }
-    ensures { λ r. ⌜ (r ≡ opening (now (h .entry))) × (now (line .exit) ≡ over (opened (now (h .entry))) (now (line .entry))) ⌝ }
+// Writes the modes of the ring h, of which `round` has two turns from the opening on. Returns how many there are.
+// The opened line, the first turn with the bin of the opening again at its end, is finished first. A single segment has nothing to join, and needs no sheet.
+pub fn ring(h: &[u32], round: &[u32], setting: u32, separators: &mut [u32], peaks: &mut [u32]) -> usize
+    requires { ⌜ (2 ≤ length (now h)) × (length (now h) ≤ 256) × (total (now h) ≤ 65536) × (now round ≡ twoTurns (now h)) ⌝ }
+    requires { ⌜ (setting ≤ lastSetting) × (2 * mostBins ≤ length (now separators)) × (2 * mostBins ≤ length (now peaks)) ⌝ }
+    ensures { λ r. ⌜ segmentsHeld (now (separators .exit)) (now (peaks .exit)) 0 r ≡ ringModes (closenessOf setting) (now (h .entry)) ⌝ }
 {
-    let first = lowest_bin(h);
-    write_opened(h, first, line);
-    first
+    let bins = h.len();
+    let end = bins + 1;
+    let n = first_segments(&round[..end], separators, peaks);
+    if n < 2 {
+        return n;
+    }
+    let sheet = copied_sheet();
+    let left = join_all(&sheet, &round[..end], setting, separators, peaks, n);
+    join_round(&sheet, round, setting, separators, peaks, left, bins)
 }
 
-// Writes the first n separators of the opened line, by the ring's own bin numbers, into the first places of `out`.
-pub fn ring_numbers(separators: &[u32], n: usize, opening: usize, bins: usize, out: &mut [u32])
-    requires { ⌜ (n ≤ length (now separators)) × (n ≤ length (now out)) ⌝ }
+// Writes the bins at the first n places, by the ring's own numbers, into the first places of `out`.
+pub fn ring_numbers(places: &[u32], n: usize, opening: usize, bins: usize, out: &mut [u32])
+    requires { ⌜ (n ≤ length (now places)) × (n ≤ length (now out)) ⌝ }
     requires { ⌜ (opening < bins) × (bins ≤ 256) ⌝ }
-    ensures { λ _. ⌜ now (out .exit) ≡ over (map (λ s. (opening + s) % bins) (take n (now (separators .entry)))) (now (out .entry)) ⌝ }
+    ensures { λ _. ⌜ now (out .exit) ≡ over (map (λ s. (opening + s) % bins) (take n (now (places .entry)))) (now (out .entry)) ⌝ }
 {
     let mut i = 0;
     while i < n {
-        let bin = (opening + separators[i] as usize) % bins;
+        let bin = (opening + places[i] as usize) % bins;
         out[i] = bin as u32;
         i += 1;
     }

@@ -1,25 +1,23 @@
-// The search for the next join.
+// The search for the next join, of a line or round a ring.
 use crate::Found;
 use crate::Join;
 use logarithm::SHEET_SIZE;
 use verdict::capped_cost;
 ghost use mathlib.Core.Path.{_≡_};
 ghost use mathlib.Core.Bool.{false, cond};
-ghost use Prim.Native.Nat.{_+_, _≤_, _<_, _^_};
-ghost use lib.ListN.{length};
+ghost use Prim.Native.Nat.{suc, _+_, _-_, _≤_, _<_, _^_};
 ghost use lib.IntN.{pos};
 ghost use lib.Signed.{ltZ, mag};
 ghost use Rattle.lists.specs.Lists.{part};
 ghost use Rattle.logarithm.specs.Sheet.{logSheet};
 ghost use Rattle.pooling.specs.Blocks.{direction};
+ghost use Rattle.pooling.specs.Limits.{mostBins};
 ghost use Rattle.verdict.specs.Test.{cost};
 ghost use Rattle.verdict.specs.Settings.{lastSetting, closenessOf};
-ghost use Rattle.pooling.specs.Limits.{Small};
 ghost use Rattle.verdict.specs.Scratch.{Capped};
-ghost use Rattle.segmentation.specs.Joining.{lineReader, joinOf, cheapest, nextJoin};
-ghost use Rattle.segmentation.specs.Finished.{Cut};
+ghost use Rattle.segmentation.specs.Joining.{lineReader, joinOf, lastStart, cheapest, nextAmong};
 ghost use Rattle.segmentation.specs.Held.{segmentsHeld, joinFound};
-ghost use Rattle.segmentation.specs.Runs.{LineHeld, RunBelow, joinBy, betterOf, whereBelow};
+ghost use Rattle.segmentation.specs.Runs.{Prepared, Within, RunInside, RunsInside, heldCount, AllInside, RunBelow, joinBy, betterOf, whereBelow};
 
 // The number of a bin, from a list that holds it.
 fn wide(x: u32) -> usize
@@ -57,28 +55,29 @@ fn stretch_cost(
     j: usize,
     cap: i64,
 ) -> i64
-    requires { ⌜ Small (now h) ⌝ }
-    requires { ⌜ (i ≤ j) × (j < length (now h)) × (setting ≤ lastSetting) × (mag cap < 2 ^ 62) × (now sheet ≡ logSheet) ⌝ }
+    requires { ⌜ Within (now h) i j ⌝ }
+    requires { ⌜ (setting ≤ lastSetting) × (mag cap < 2 ^ 62) × (now sheet ≡ logSheet) ⌝ }
     ensures { λ r. ⌜ Capped cap (cost (closenessOf setting) (direction rising) (part i j (now (h .entry)))) r ⌝ }
 {
     capped_cost(sheet, &h[i..j + 1], rising, setting, cap)
 }
 
-// The run of len segments from segment i on, where only a cost below `least` matters.
+// The run of len segments from segment i on, of so many held, where only a cost below `least` matters.
 fn run(
     sheet: &[u32; SHEET_SIZE],
     h: &[u32],
     setting: u32,
     separators: &[u32],
     peaks: &[u32],
-    n: usize,
+    held: usize,
     i: usize,
     len: usize,
     least: i64,
 ) -> Join
-    requires { ⌜ LineHeld (now sheet) setting (now h) (now separators) (now peaks) n ⌝ }
-    requires { ⌜ (1 ≤ len) × (i + len ≤ n) × (mag least < 2 ^ 62) ⌝ }
-    ensures { λ r. ⌜ RunBelow least (joinOf (closenessOf setting) (lineReader (now (h .entry))) (segmentsHeld (now (separators .entry)) (now (peaks .entry)) 0 n) i len) r ⌝ }
+    requires { ⌜ Prepared (now sheet) setting (now separators) (now peaks) held ⌝ }
+    requires { ⌜ RunInside (now h) (now separators) (now peaks) i len ⌝ }
+    requires { ⌜ (1 ≤ len) × (i + len ≤ held) × (mag least < 2 ^ 62) ⌝ }
+    ensures { λ r. ⌜ RunBelow least (joinOf (closenessOf setting) (lineReader (now (h .entry))) (segmentsHeld (now (separators .entry)) (now (peaks .entry)) 0 held) i len) r ⌝ }
 {
     let first_peak = wide(peaks[i]);
     let end = wide(separators[i + len]);
@@ -118,34 +117,52 @@ fn better(best: Found, next: Join) -> Found
     best
 }
 
-// Of all runs of len segments, the leftmost one of the lowest cost, if that cost is below 0.
+// Of the runs of len segments that start at segment 0, 1 and so on, as many as `starts` says, the first one of the lowest cost, if that cost is below 0.
 fn cheapest_below(
     sheet: &[u32; SHEET_SIZE],
     h: &[u32],
     setting: u32,
     separators: &[u32],
     peaks: &[u32],
-    n: usize,
+    held: usize,
+    starts: usize,
     len: usize,
 ) -> Found
-    requires { ⌜ LineHeld (now sheet) setting (now h) (now separators) (now peaks) n ⌝ }
-    requires { ⌜ (1 ≤ len) × (len ≤ n) ⌝ }
-    ensures { λ r. ⌜ joinFound (r .found) (r .join) ≡ whereBelow (cheapest (closenessOf setting) (lineReader (now (h .entry))) (segmentsHeld (now (separators .entry)) (now (peaks .entry)) 0 n) len) ⌝ }
+    requires { ⌜ Prepared (now sheet) setting (now separators) (now peaks) held ⌝ }
+    requires { ⌜ RunsInside (now h) (now separators) (now peaks) starts len ⌝ }
+    requires { ⌜ (1 ≤ len) × (1 ≤ starts) × (starts + len ≤ held + 1) ⌝ }
+    ensures { λ r. ⌜ joinFound (r .found) (r .join) ≡ whereBelow (cheapest (closenessOf setting) (lineReader (now (h .entry))) (segmentsHeld (now (separators .entry)) (now (peaks .entry)) 0 held) (starts - 1) len) ⌝ }
 {
     let mut best = nothing();
     let mut i = 0;
-    while i + len <= n {
+    while i < starts {
         let least = best.join.cost;
         best = better(
             best,
-            run(sheet, h, setting, separators, peaks, n, i, len, least),
+            run(sheet, h, setting, separators, peaks, held, i, len, least),
         );
         i += 1;
     }
     best
 }
 
-// The next join, if there is one.
+// How many segments are held for a search among n. A ring's are held twice over, so that a run can go past the last one to the first.
+fn held_count(n: usize, round: bool) -> usize
+    requires { ⌜ n ≤ mostBins ⌝ }
+    ensures { λ r. ⌜ r ≡ heldCount round n ⌝ }
+{
+    if round { n + n } else { n }
+}
+
+// How many of n segments a run of len may start with: on a ring any of them, on a line those that have len - 1 others behind them.
+fn start_count(n: usize, len: usize, round: bool) -> usize
+    requires { ⌜ (1 ≤ len) × (len ≤ n) × (n ≤ mostBins) ⌝ }
+    ensures { λ r. ⌜ r ≡ suc (lastStart round n len) ⌝ }
+{
+    if round { n } else { n - len + 1 }
+}
+
+// The next join among n segments, of a line or round a ring, if there is one.
 pub fn next_join(
     sheet: &[u32; SHEET_SIZE],
     h: &[u32],
@@ -153,16 +170,18 @@ pub fn next_join(
     separators: &[u32],
     peaks: &[u32],
     n: usize,
+    round: bool,
 ) -> Found
-    requires { ⌜ Small (now h) ⌝ }
-    requires { ⌜ (setting ≤ lastSetting) × (now sheet ≡ logSheet) ⌝ }
-    requires { ⌜ (n < length (now separators)) × (n ≤ length (now peaks)) ⌝ }
-    requires { ⌜ Cut (length (now h)) (segmentsHeld (now separators) (now peaks) 0 n) ⌝ }
-    ensures { λ r. ⌜ joinFound (r .found) (r .join) ≡ nextJoin (closenessOf setting) (lineReader (now (h .entry))) (segmentsHeld (now (separators .entry)) (now (peaks .entry)) 0 n) ⌝ }
+    requires { ⌜ Prepared (now sheet) setting (now separators) (now peaks) (heldCount round n) ⌝ }
+    requires { ⌜ AllInside (now h) (now separators) (now peaks) round n ⌝ }
+    requires { ⌜ (1 ≤ n) × (n ≤ mostBins) ⌝ }
+    ensures { λ r. ⌜ joinFound (r .found) (r .join) ≡ nextAmong (closenessOf setting) (lineReader (now (h .entry))) (segmentsHeld (now (separators .entry)) (now (peaks .entry)) 0 (heldCount round n)) round n ⌝ }
 {
+    let held = held_count(n, round);
     let mut len = 2;
     while len <= n {
-        let best = cheapest_below(sheet, h, setting, separators, peaks, n, len);
+        let starts = start_count(n, len, round);
+        let best = cheapest_below(sheet, h, setting, separators, peaks, held, starts, len);
         if best.found {
             return best;
         }
