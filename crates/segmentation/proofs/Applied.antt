@@ -15,8 +15,11 @@ use Rattle.lists.specs.Lists.{numbers, firstThat, maybe}
 use Rattle.verdict.specs.Test.{Closeness}
 use Rattle.segmentation.specs.Segments.{Segment, segmentAt, firstSegments}
 use Rattle.segmentation.specs.Joining.{lineReader, Join, joined, join, Joins, lineJoins, joinAll, lineModes}
+use Rattle.segmentation.specs.Around.{ringJoins}
+use Rattle.segmentation.specs.Ring.{opened, roundReader, ringModes}
 use Rattle.segmentation.specs.Held.{segmentsHeld, joinFound}
 use Rattle.segmentation.specs.Finished.{Cut}
+use Rattle.segmentation.proofs.Kept.{chain-grows}
 use Rattle.segmentation.proofs.Holding.{held-length, held-at}
 use Rattle.segmentation.proofs.Settled.{Shortens, joins-step}
 
@@ -24,7 +27,7 @@ use Rattle.segmentation.proofs.Settled.{Shortens, joins-step}
 abbrev heldOne : List ℕ → List ℕ → ℕ → Segment
 heldOne s p i = record { start = getD s i 0; peak = getD p i 0; end = getD s (suc i) 0 }
 
-same-segment : (a b c x y z : ℕ) → a ≡ x → b ≡ y → c ≡ z → _≡_ {A = Segment} (record { start = a; peak = b; end = c }) (record { start = x; peak = y; end = z })
+pub same-segment : (a b c x y z : ℕ) → a ≡ x → b ≡ y → c ≡ z → _≡_ {A = Segment} (record { start = a; peak = b; end = c }) (record { start = x; peak = y; end = z })
 same-segment a b c x y z p q r = rw (p, q, r)
 
 same-pieces : (a b : List Segment) (s t : Segment) (c d : List Segment) → a ≡ b → s ≡ t → c ≡ d → a ++ s ∷ c ≡ b ++ t ∷ d
@@ -64,7 +67,7 @@ held-split s p i (suc m) n =
 one-on : (i m : ℕ) → suc i + m ≡ i + suc m
 one-on i m = omega arith
 
-held-same : (s p t q : List ℕ) (i k n : ℕ) → ((m : ℕ) → m ≤ n → getD s (i + m) 0 ≡ getD t (k + m) 0) → ((m : ℕ) → m < n → getD p (i + m) 0 ≡ getD q (k + m) 0)
+pub held-same : (s p t q : List ℕ) (i k n : ℕ) → ((m : ℕ) → m ≤ n → getD s (i + m) 0 ≡ getD t (k + m) 0) → ((m : ℕ) → m < n → getD p (i + m) 0 ≡ getD q (k + m) 0)
     → segmentsHeld s p i n ≡ segmentsHeld t q k n
 unfolding segmentsHeld
 held-same s p t q i k zero f g = refl
@@ -169,26 +172,23 @@ held-step w shortens s p t q n r j next done =
     ap (joinAll r w) done ∙ ap (λ (k : ℕ). joinAll k w (w .after ss j)) l ∙ joins-step w shortens ss j next
     ∙ ap (λ (k : ℕ). joinAll k w ss) (held-length s p 0 n)
 
-pub line-held : (e : Closeness) (h s p : List ℕ) (n : ℕ) → segmentsHeld s p 0 n ≡ firstSegments h → joinAll n (lineJoins e (lineReader h)) (segmentsHeld s p 0 n) ≡ lineModes e h
+-- joining segments that are held is joining those segments
+joins-held : (w : Joins) (s p : List ℕ) (n : ℕ) (ss : List Segment) → segmentsHeld s p 0 n ≡ ss → joinAll n w (segmentsHeld s p 0 n) ≡ joinAll (length ss) w ss
+joins-held w s p n ss q = ap (joinAll n w) q ∙ ap (λ (k : ℕ). joinAll k w ss) (sym (held-length s p 0 n) ∙ ap length q)
+
+pub line-held : (e : Closeness) (h s p : List ℕ) (n : ℕ) → segmentsHeld s p 0 n ≡ firstSegments h
+    → joinAll n (lineJoins e (lineReader h)) (segmentsHeld s p 0 n) ≡ lineModes e h
 unfolding lineModes
-line-held e h s p n q =
-    let w = lineJoins e (lineReader h) in
-    ap (joinAll n w) q ∙ ap (λ (k : ℕ). joinAll k w (firstSegments h)) (sym (held-length s p 0 n) ∙ ap length q)
+line-held e h s p n q = joins-held (lineJoins e (lineReader h)) s p n (firstSegments h) q
+
+pub ring-held : (e : Closeness) (h s p : List ℕ) (n : ℕ) → segmentsHeld s p 0 n ≡ lineModes e (opened h)
+    → joinAll n (ringJoins e (roundReader h) (length h)) (segmentsHeld s p 0 n) ≡ ringModes e h
+unfolding ringModes
+ring-held e h s p n q = joins-held (ringJoins e (roundReader h) (length h)) s p n (lineModes e (opened h)) q
 
 -- ---- separators rise from bin 0 to the last bin, so a line has more bins than segments
-module _ {bins : ℕ} {ss : List Segment} (c : Cut bins ss) where
-  start-grows : (m : ℕ) → m < length ss → m ≤ segmentAt ss m .start
-  start-grows zero h = omega arith
-  start-grows (suc m) h =
-      let i = start-grows m (omega arith) in
-      let a = c .chain .ascending m (omega arith) in
-      let b = c .chain .adjacent m h in
-      omega arith
-
-  pub cut-count : length ss < bins
-  cut-count =
-      let some = c .nonEmpty in
-      let i = start-grows (length ss - 1) (omega arith) in
-      let a = c .chain .ascending (length ss - 1) (omega arith) in
-      let b = c .toLastBin in
-      omega arith
+pub cut-count : {bins : ℕ} {ss : List Segment} → Cut bins ss → length ss < bins
+cut-count {bins} {ss} c =
+    let some = c .nonEmpty in
+    let last = length ss - 1 in
+    omega (arith, chain-grows ss (c .chain) last (omega arith), c .chain .ascending last (omega arith), c .toLastBin)

@@ -11,15 +11,15 @@ use Rattle.segmentation.specs.Segments.{Segment, segmentAt}
 use Rattle.segmentation.specs.Joining.{Join, joined, join}
 use Rattle.segmentation.specs.Held.{segmentsHeld}
 use Rattle.segmentation.proofs.Holding.{held-length, held-at}
-use Rattle.segmentation.specs.Around.{later, twice, startingAt}
-use Rattle.segmentation.specs.Runs.{Repeated, joinTwice}
+use Rattle.segmentation.specs.Around.{later, twice, turnFrom, startingAt, joinRound}
+use Rattle.segmentation.specs.Finished.{RingCut}
+use Rattle.segmentation.specs.Runs.{EachTo, Repeated, joinTwice}
+use Rattle.segmentation.proofs.Kept.{chain-ends, chain-grows}
+use Rattle.segmentation.proofs.Applied.{same-segment, held-same}
 use Rattle.segmentation.proofs.Turned.{twice-length, twice-first, twice-later}
 
 abbrev none : Segment
 none = record { start = 0; peak = 0; end = 0 }
-
-same-segment : (a b c x y z : ℕ) → a ≡ x → b ≡ y → c ≡ z → _≡_ {A = Segment} (record { start = a; peak = b; end = c }) (record { start = x; peak = y; end = z })
-same-segment a b c x y z p q r = rw (p, q, r)
 
 -- ---- the turn from number k on, moved to the front
 module _ (s p : List ℕ) (n k : ℕ) (within : k ≤ n) (rooms : n + n < length s) (roomp : n + n ≤ length p) where
@@ -127,3 +127,53 @@ join-turn s p t q n k j m a b c et eq ek mf ml mr ss held =
     ∙ ap (λ (xs : List ℕ). join (segmentsHeld (paste s 0 (drop k s) (k + n + 1 - k)) xs 0 n) (startingAt (j .first - k) j)) eq
     ∙ ap (λ (xs : List Segment). join xs (startingAt (j .first - k) j)) (turn-held s p n k a b c)
     ∙ ap (λ (z : ℕ). join (take n (drop z (segmentsHeld s p 0 (n + n)))) (startingAt (j .first - z) j)) ek
+
+pub joined-round : (all : List Segment) (n bins : ℕ) (ss : List Segment) (j : Join) → all ≡ twice bins ss → n ≡ length ss → joinTwice all n j ≡ joinRound bins ss j
+unfolding joinTwice joinRound turnFrom
+joined-round all n bins ss j held count = rw (held, count) refl
+
+-- ---- the modes of a ring, as two lists hold them
+module _ (s p : List ℕ) (n bins : ℕ) (cut : RingCut bins (segmentsHeld s p 0 n)) where
+  count : length (segmentsHeld s p 0 n) ≡ n
+  count = held-length s p 0 n
+
+  -- the last separator is the first one, a turn later
+  pub turn-end : getD s n 0 ≡ getD s 0 0 + bins
+  turn-end =
+      let some : 0 < n = omega (arith, cut .nonEmpty, count) in
+      let last = length (segmentsHeld s p 0 n) - 1 in
+      let e : last ≡ n - 1 = omega (arith, count) in
+      let z : suc (n - 1) ≡ n = omega arith in
+      sym (ap (λ (x : Segment). x .end) (held-at s p n (n - 1) (omega arith)) ∙ ap (λ (k : ℕ). getD s k 0) z)
+      ∙ ap (λ (k : ℕ). segmentAt (segmentsHeld s p 0 n) k .end) (sym e) ∙ cut .onceRound
+      ∙ ap (λ (x : Segment). x .start + bins) (held-at s p n 0 some)
+
+  end-most : (k : ℕ) → k < n → segmentAt (segmentsHeld s p 0 n) k .end ≤ bins + bins
+  end-most k l =
+      let ss = segmentsHeld s p 0 n in
+      let some = cut .nonEmpty in
+      omega (arith, count, chain-ends ss (cut .chain) k (length ss - 1) (omega (arith, count)) (omega arith), cut .onceRound, cut .firstTurn 0 some)
+
+  pub separators-most : EachTo (bins + bins) s 1 n
+  separators-most k l =
+      let z : 1 + k ≡ suc k = omega arith in
+      let e = ap (λ (x : Segment). x .end) (held-at s p n k l) in
+      omega (arith, end-most k l, e, ap (λ (i : ℕ). getD s i 0) z)
+
+  pub peaks-most : EachTo (bins + bins) p 0 n
+  peaks-most k l =
+      let z : 0 + k ≡ k = omega arith in
+      let e = ap (λ (x : Segment). x .peak) (held-at s p n k l) in
+      omega (arith, end-most k l, cut .chain .peakInside k (omega (arith, count)), e, ap (λ (i : ℕ). getD p i 0) z)
+
+  -- a ring has no more modes than bins
+  pub ring-count : n ≤ bins
+  ring-count =
+      let ss = segmentsHeld s p 0 n in
+      let some = cut .nonEmpty in
+      let last : length ss - 1 < length ss = omega arith in
+      omega (arith, count, chain-grows ss (cut .chain) (length ss - 1) last, cut .firstTurn (length ss - 1) last)
+
+-- what stands again leaves the modes as they are held
+pub held-kept : (s p s′ p′ : List ℕ) (n bins : ℕ) → Repeated s s′ 1 n bins → Repeated p p′ 0 n bins → segmentsHeld s′ p′ 0 n ≡ segmentsHeld s p 0 n
+held-kept s p s′ p′ n bins rs rp = held-same s′ p′ s p 0 0 n (λ m l. rs .kept (0 + m) (omega arith)) (λ m l. rp .kept (0 + m) (omega arith))

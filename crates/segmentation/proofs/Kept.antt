@@ -162,6 +162,10 @@ module _ (ss : List Segment) (c : Chain ss) where
       (λ i. omega (arith, c .adjacent a (omega arith), chain-starts (suc a) b i k, c .ascending b k))
       (λ i. let z : a ≡ b = omega arith in rw z (omega arith))
 
+  pub chain-grows : (m : ℕ) → m < length ss → m ≤ segmentAt ss m .start
+  chain-grows zero l = omega arith
+  chain-grows (suc m) l = omega (arith, chain-grows m (omega arith), c .ascending m (omega arith), c .adjacent m l)
+
   -- the two stretches of a run lie between its first separator and its last one
   pub between : (i n : ℕ) → 1 ≤ n → i + n ≤ length ss → Between ss i n
   between i n one fit =

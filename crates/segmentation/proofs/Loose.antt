@@ -24,13 +24,13 @@ use Rattle.segmentation.specs.Finished.{Chain}
 use Rattle.segmentation.specs.Loose.{LowBars, LowBarNeverJoins, NothingJoins, keptBins, KeptAtMinusTen, RingKeptAtMinusTen}
 use Rattle.segmentation.proofs.Kept.{between}
 use Rattle.segmentation.proofs.FirstCut.{first-cut}
-use Rattle.segmentation.proofs.Settled.{chosen, chosen-below, one-joins-none, joins-none}
+use Rattle.segmentation.proofs.Settled.{chosen, chosen-below, joins-none, one-kept}
 use Rattle.segmentation.proofs.Finishing.{part-length}
 use Rattle.segmentation.proofs.RunsInside.{line-end}
 use Rattle.segmentation.proofs.RingPlaces.{ring-length}
 use Rattle.segmentation.proofs.TwoTurns.{turns-length}
 use Rattle.segmentation.proofs.Turned.{twice-length, twice-first, twice-chain, round-end}
-use Rattle.segmentation.proofs.RingModes.{line-on-ring}
+use Rattle.segmentation.proofs.RingModes.{line-on-ring, ring-one-kept}
 
 pub low-bar-never-joins : LowBarNeverJoins
 low-bar-never-joins e w h l = low-bar-cost w h l e
@@ -71,13 +71,6 @@ module _ (e : Closeness) (h : List ℕ) (bins : ℕ) (low : LowBars e bins) wher
             let k = subst (λ (j : Join). pos 0 ≤ℤ j .cost) (r .same) (run-cost (r .first) (r .len) (r .two) (r .all) (r .starts)) in
             absurd (true≢false (sym (chosen-below e (lineReader h) ss round count j q) ∙ lt-no (j .cost) (pos 0) k))
 
--- a line of two bins or fewer keeps its single segment
-short-kept : (e : Closeness) (h : List ℕ) → length h ≤ 2 → lineModes e h ≡ firstSegments h
-unfolding lineModes nextJoin
-short-kept e h l =
-    joins-none (lineJoins e (lineReader h)) (length (firstSegments h)) (firstSegments h)
-    (one-joins-none e (lineReader h) (firstSegments h) false (length (firstSegments h)) (short-one h l))
-
 long-kept : (e : Closeness) (h : List ℕ) → LowBars e (length h) → 2 ≤ length h → lineModes e h ≡ firstSegments h
 unfolding lineModes nextJoin
 long-kept e h low two =
@@ -88,7 +81,7 @@ long-kept e h low two =
     (λ i n a b k. let end = line-end c (i + n - 1) (omega arith) in (omega arith, end, omega arith)))
 
 pub nothing-joins : NothingJoins
-nothing-joins e h low = by-order (length h) 2 (λ l. short-kept e h (omega arith)) (long-kept e h low)
+nothing-joins e h low = by-order (length h) 2 (λ l. one-kept e h (short-one h (omega arith))) (long-kept e h low)
 
 -- ---- nor round a ring, whose opened line has one bin more
 opened-most : (h : List ℕ) → length (opened h) ≤ suc (length h)
@@ -96,27 +89,26 @@ unfolding opened opening firstLowest
 opened-most [] = omega arith
 opened-most (x ∷ h) = omega (arith, ring-length (x ∷ h) (omega arith))
 
-ring-nothing-joins : (e : Closeness) (h : List ℕ) → LowBars e (suc (length h)) → ringModes e h ≡ lineModes e (opened h)
+ring-long-kept : (e : Closeness) (h : List ℕ) → LowBars e (suc (length h)) → 2 ≤ length h → ringModes e h ≡ lineModes e (opened h)
 unfolding ringModes nextRound
-ring-nothing-joins e h low = joins-none (ringJoins e (roundReader h) (length h)) (length ss) ss (by-order (length h) 2 short long)
-  where
-    ss : List Segment
-    ss = lineModes e (opened h)
+ring-long-kept e h low two =
+    let ss = lineModes e (opened h) in
+    let c = line-on-ring h two e .cut in
+    joins-none (ringJoins e (roundReader h) (length h)) (length ss) ss
+    (none-next e (twoTurns h) (suc (length h)) low (twice (length h) ss) (twice-chain c) true (length ss)
+    (λ i n a b k.
+    let here : i < length ss = omega arith in
+    let end = round-end c i n here (omega arith) b in
+    let start = ap (λ (s : Segment). s .start) (twice-first (length h) ss i here) in
+    (omega (arith, twice-length (length h) ss), omega (arith, c .firstTurn i here, turns-length h (omega arith)), omega arith)))
 
-    short : length h < 2 → nextRound e (roundReader h) (length h) ss ≡ none
-    short l =
-        let k : length (opened h) ≤ 2 = omega (arith, opened-most h) in
-        one-joins-none e (roundReader h) (twice (length h) ss) true (length ss) (omega (arith, ap length (short-kept e (opened h) k), short-one (opened h) k))
-
-    long : 2 ≤ length h → nextRound e (roundReader h) (length h) ss ≡ none
-    long l =
-        let c = line-on-ring h l e .cut in
-        none-next e (twoTurns h) (suc (length h)) low (twice (length h) ss) (twice-chain c) true (length ss)
-        (λ i n a b k.
-        let here : i < length ss = omega arith in
-        let end = round-end c i n here (omega arith) b in
-        let start = ap (λ (s : Segment). s .start) (twice-first (length h) ss i here) in
-        (omega (arith, twice-length (length h) ss), omega (arith, c .firstTurn i here, turns-length h (omega arith)), omega arith))
+ring-nothing-joins : (e : Closeness) (h : List ℕ) → LowBars e (suc (length h)) → ringModes e h ≡ lineModes e (opened h)
+ring-nothing-joins e h low =
+    by-order (length h) 2
+    (λ l.
+    let one = short-one (opened h) (omega (arith, opened-most h)) in
+    ring-one-kept e h (omega (arith, ap length (one-kept e (opened h) one))))
+    (ring-long-kept e h low)
 
 -- ---- at the least closeness
 -- of the bars of 1 bin up to 44, none is above 0: all are computed

@@ -23,12 +23,12 @@ use Rattle.verdict.specs.Exactness.{VerdictSound}
 use Rattle.verdict.proofs.Sound.{verdict-sound}
 use Rattle.segmentation.specs.Segments.{Segment, segmentAt, binAt, isValley, firstSegments}
 use Rattle.segmentation.specs.Joining.{lineReader, Join, join, nextJoin, lineModes}
-use Rattle.segmentation.specs.Around.{nextRound, joinRound, ringJoins}
+use Rattle.segmentation.specs.Around.{twice, nextRound, joinRound, ringJoins}
 use Rattle.segmentation.specs.Ring.{opening, opened, ringBin, linePlace, fromOpening, twoTurns, roundReader, ringModes, ringSeparators, inRingMode}
 use Rattle.segmentation.specs.Finished.{Cut, SingleHump, RingCut, FinishedRound, RingAlwaysFinished, RingAlwaysListed}
 use Rattle.segmentation.specs.Runs.{OnRing}
 use Rattle.segmentation.proofs.Kept.{Run, chain-ends, chain-rises, join-starts, hump-at, at-hump}
-use Rattle.segmentation.proofs.Settled.{join-all-keeps, settled, none-joinable}
+use Rattle.segmentation.proofs.Settled.{one-joins-none, join-all-keeps, joins-none, settled, none-joinable}
 use Rattle.segmentation.proofs.FirstCut.{separatorAt, first-segment, first-neighbours}
 use Rattle.segmentation.proofs.Finishing.{part-length, kept, modes-cut, modes-humps}
 use Rattle.segmentation.proofs.RingPlaces.{opening-in, opening-lowest, opening-first, ring-length, ring-bins, place-in, place-bin, ring-bins-differ}
@@ -192,6 +192,13 @@ module _ (h : List ℕ) (two : 2 ≤ length h) where
     pub ring-one-mode : (b : ℕ) → ExactlyOne (length (ringModes e h)) (λ m. inRingMode e h m b)
     unfolding inRingMode
     ring-one-mode b = round-one (length h) (ringModes e h) ring-cut (linePlace h b) (place-in h one b)
+
+-- a ring whose line has one mode keeps it
+pub ring-one-kept : (e : Closeness) (h : List ℕ) → length (lineModes e (opened h)) ≤ 1 → ringModes e h ≡ lineModes e (opened h)
+unfolding ringModes nextRound
+ring-one-kept e h l =
+    let ss = lineModes e (opened h) in
+    joins-none (ringJoins e (roundReader h) (length h)) (length ss) ss (one-joins-none e (roundReader h) (twice (length h) ss) true (length ss) l)
 
 -- ---- behind every verdict
 module _ (e : Closeness) (w : Direction) (h : List ℕ) (two : 2 ≤ length h) (bins : length h ≤ 256) (counts : total h ≤ 65536) where

@@ -143,6 +143,22 @@ module _ (w : Joins) where
         same-result (length (w .after ss j)) (length ss - 1) (w .after ss j) (omega arith) (omega arith)
         ∙ sym (ap (λ (k : ℕ). joinAll k w ss) m ∙ joins-more (length ss - 1) ss j q)
 
+    -- one step, which makes the next join if there is one: if it leaves as many segments, nothing is left to do
+    pub record Stepped (ss ts : List Segment) : Type 0 where
+      pub fewer : length ts ≤ length ss
+      pub same : joinAll (length ts) w ts ≡ joinAll (length ss) w ss
+      pub done : length ts ≡ length ss → joinAll (length ts) w ts ≡ ts
+
+    pub stepped : (ss : List Segment) → Stepped ss (joinAll 1 w ss)
+    unfolding joinAll
+    stepped ss = go (w .next ss) refl
+      where
+        go : (o : Option Join) → w .next ss ≡ o → Stepped ss (maybe ss (λ j. w .after ss j) o)
+        go none q = record { fewer = omega arith; same = refl; done = λ l. joins-none (length ss) ss q }
+        go (some j) q =
+            let d = s .fewer ss j q in
+            record { fewer = omega arith; same = joins-step ss j q; done = λ l. absurd (omega arith) }
+
 -- ---- a line
 module _ (e : Closeness) (read : Reader) (ss : List Segment) (j : Join) (q : nextJoin e read ss ≡ some j) where
   pub next-of : Chosen e read ss false (length ss) j
@@ -167,6 +183,13 @@ line-shortens e read = record {
   empty = one-joins-none e read [] false 0 (omega arith);
   fewer = λ ss j q. let r = next-run e read ss j q in omega (arith, join-length ss j r, r .two);
 }
+
+-- a line of one segment keeps it
+pub one-kept : (e : Closeness) (h : List ℕ) → length (firstSegments h) ≤ 1 → lineModes e h ≡ firstSegments h
+unfolding lineModes nextJoin
+one-kept e h l =
+    let ss = firstSegments h in
+    joins-none (lineJoins e (lineReader h)) (length ss) ss (one-joins-none e (lineReader h) ss false (length ss) l)
 
 -- Finished.noneJoinable
 pub line-none-joinable : (e : Closeness) (h : List ℕ) (i n : ℕ) → 2 ≤ n → i + n ≤ length (lineModes e h)

@@ -5,7 +5,7 @@ use crate::joins::shift;
 use crate::runs::next_join;
 use logarithm::SHEET_SIZE;
 ghost use mathlib.Core.Path.{_≡_};
-ghost use Prim.Native.Nat.{_+_, _*_, _-_, _≤_, _<_};
+ghost use Prim.Native.Nat.{_+_, _-_, _≤_, _<_};
 ghost use lib.ListN.{length};
 ghost use Rattle.pooling.specs.Limits.{mostBins};
 ghost use Rattle.verdict.specs.Settings.{closenessOf};
@@ -16,7 +16,7 @@ ghost use Rattle.segmentation.specs.Runs.{RingHeld, EachTo, Repeated, jo
 
 // Writes the n members from place `from` on again behind them, `by` more each.
 fn repeat(a: &mut [u32], from: usize, n: usize, by: usize)
-    requires { ⌜ (from + n + n ≤ length (now a)) × (by ≤ mostBins) × EachTo (2 * mostBins) (now a) from n ⌝ }
+    requires { ⌜ (from + n + n ≤ length (now a)) × (by ≤ mostBins) × EachTo (mostBins + mostBins) (now a) from n ⌝ }
     ensures { λ _. ⌜ Repeated (now (a .entry)) (now (a .exit)) from n by ⌝ }
 {
     let mut k = 0;

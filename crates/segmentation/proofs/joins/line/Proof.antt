@@ -1,16 +1,18 @@
 -- `line` gives the modes of a line. Assumes nothing.
-use mathlib.Core.Path.{_≡_, sym, subst, _∙_}
+use mathlib.Core.Path.{_≡_, sym, ap, subst, _∙_}
 use borrow.Author.Needs.{needs}
 use native.Mathlib.Omega.{arith}
 use Prim.Native.Nat.{_≤_}
 use lib.ListN.{length}
-use Rattle.segmentation.specs.Joining.{lineReader, joinAll, lineModes}
+use Rattle.segmentation.specs.Segments.{firstSegments}
+use Rattle.segmentation.specs.Joining.{lineReader, lineJoins, joinAll, lineModes}
 use Rattle.segmentation.specs.Held.{segmentsHeld}
 use Rattle.segmentation.specs.Finished.{Cut}
 use Rattle.verdict.specs.Settings.{closenessOf}
 use Rattle.segmentation.proofs.FirstCut.{first-cut}
 use Rattle.segmentation.proofs.Holding.{held-length}
-use Rattle.segmentation.proofs.Applied.{line-held, cut-count, one-joins-none, joins-none}
+use Rattle.segmentation.proofs.Applied.{line-held, cut-count}
+use Rattle.segmentation.proofs.Settled.{one-kept}
 use Rattle.segmentation.proofs.joins.line.Statement.{statement}
 use Rattle.segmentation.proofs.joins.line.Tie as tie
 
@@ -27,7 +29,7 @@ entry c = c .before .before .before .before .before .before
 -- joining the first segments gives the modes
 modes-are : (c : tie.After-first-segments) →
     let f = c .first-segments in
-    joinAll (f .result) (closenessOf (entry c .args .setting)) (lineReader (entry c .args .h .now)) (segmentsHeld (f .last .1 .0) (f .last .1 .1 .0) 0 (f .result))
+    joinAll (f .result) (lineJoins (closenessOf (entry c .args .setting)) (lineReader (entry c .args .h .now))) (segmentsHeld (f .last .1 .0) (f .last .1 .1 .0) 0 (f .result))
     ≡ lineModes (closenessOf (entry c .args .setting)) (entry c .args .h .now)
 modes-are c =
     let a = entry c .args in
@@ -43,11 +45,10 @@ same-length-2 c = search needs
 returns : tie.Need-returns
 returns c =
     let at = found (c .before) in
+    let a = entry at .args in
     let f = at .first-segments in
-    let ss = segmentsHeld (f .last .1 .0) (f .last .1 .1 .0) 0 (f .result) in
-    let read = lineReader (entry at .args .h .now) in
-    let few : length ss ≤ 1 = omega (arith, held-length (f .last .1 .0) (f .last .1 .1 .0) 0 (f .result)) in
-    sym (joins-none (closenessOf (entry at .args .setting)) read (f .result) ss (one-joins-none (closenessOf (entry at .args .setting)) read ss few)) ∙ modes-are at
+    let few : length (firstSegments (a .h .now)) ≤ 1 = omega (arith, ap length (f .ensures), held-length (f .last .1 .0) (f .last .1 .1 .0) 0 (f .result)) in
+    f .ensures ∙ sym (one-kept (closenessOf (a .setting)) (a .h .now) few)
 
 copied-sheet-requires : tie.Need-copied-sheet-requires
 copied-sheet-requires c κs = search needs

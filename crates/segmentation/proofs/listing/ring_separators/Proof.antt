@@ -1,105 +1,85 @@
--- `ring_separators` meets its contract: the opened line is segmented, and its separators take the ring's numbers. Assumes nothing.
-use mathlib.Core.Path.{_≡_, ap, _∙_}
+-- `ring_separators` meets its contract: the places where the modes start take the ring's numbers. Assumes nothing.
+use Prim.Native.Nat.{ℕ, _+_, _%_, _≤_, _<_}
+use mathlib.Core.Path.{_≡_, ap, ap₂, sym, _∙_}
 use mathlib.Core.List.{List, map}
-use Prim.Native.Nat.{ℕ, suc, _+_, _%_, _≤_}
 use native.Mathlib.Omega.{arith}
-use lib.ListN.{length, take}
+use lib.ListN.{length, take, length-map}
+use borrow.Author.Needs.{needs}
 use Rattle.lists.specs.Lists.{over}
 use Rattle.lists.proofs.Buffers.{over-front}
-use Rattle.segmentation.specs.Joining.{lineModes}
-use Rattle.segmentation.specs.Held.{segmentsHeld}
-use Rattle.segmentation.specs.Ring.{opened}
 use Rattle.verdict.specs.Settings.{closenessOf}
-use Rattle.segmentation.proofs.RingPlaces.{ring-length, ring-small, opening-in}
-use Rattle.segmentation.proofs.Listed.{ring-listed-count, ring-listed-length, ring-numbers-listed}
-use borrow.Author.Needs.{needs}
+use Rattle.segmentation.specs.Segments.{Segment}
+use Rattle.segmentation.specs.Ring.{ringModes}
+use Rattle.segmentation.proofs.RingPlaces.{opening-in}
+use Rattle.segmentation.proofs.RingModes.{ring-separators}
+use Rattle.segmentation.proofs.Listed.{ring-modes-most}
 use Rattle.segmentation.proofs.listing.ring_separators.Statement.{statement}
 use Rattle.segmentation.proofs.listing.ring_separators.Tie as tie
 
-long : (s : tie.Start) → length (opened (s .args .h .now)) ≡ suc (length (s .args .h .now))
-long s = ring-length (s .args .h .now) (omega (arith, s .pre .0))
+-- ---- the ways to the function's entry, and to the modes
+abbrev entry : tie.After-ring-modes → tie.Start
+entry c = c .before .before .before .before
 
--- the first places of the buffer hold the opened line
-line-is : (c : tie.After-open-ring) → take (length (c .before .before .before .before .args .h .now) + 1) (c .open-ring .last .1 .0) ≡ opened (c .before .before .before .before .args .h .now)
-line-is c = let s = c .before .before .before .before in
-    ap (take (length (s .args .h .now) + 1)) (c .open-ring .ensures .1) ∙ over-front (opened (s .args .h .now)) _ (length (s .args .h .now) + 1) (omega (arith, long s))
+abbrev modes : tie.After-ring-numbers → tie.After-ring-modes
+modes c = c .before .before .before .before
 
-slice-aggregate-open-ring : tie.Need-slice-aggregate-open-ring
-slice-aggregate-open-ring c = search needs
+abbrev numbered : tie.After-struct-known → tie.After-ring-numbers
+numbered c = c .before .before .before
 
-open-ring-requires : tie.Need-open-ring-requires
-open-ring-requires c κs = search needs
+-- no more modes than bins
+few : (c : tie.After-ring-modes) → c .ring-modes .result .modes ≤ length (entry c .args .h .now)
+few c = let s = entry c in omega (arith, c .ring-modes .ensures .1, ring-modes-most (closenessOf (s .args .setting)) (s .args .h .now) (s .pre .0 .0))
 
-add-end : tie.Need-add-end
-add-end c = search needs
+-- the first places hold where the modes start
+starts : (c : tie.After-ring-modes)
+    → take (c .ring-modes .result .modes) (c .ring-modes .last .1 .1 .0) ≡ map (λ (s : Segment). s .start) (ringModes (closenessOf (entry c .args .setting)) (entry c .args .h .now))
+starts c =
+    let ss = ringModes (closenessOf (entry c .args .setting)) (entry c .args .h .now) in
+    let m = c .ring-modes in
+    ap (take (m .result .modes)) (m .ensures .2) ∙ over-front _ _ (m .result .modes) (m .ensures .1 ∙ sym (length-map ss (λ (s : Segment). s .start)))
 
-array-share-prefix-opened : tie.Need-array-share-prefix-opened
-array-share-prefix-opened c = search needs
+slice-aggregate-ring-modes : tie.Need-slice-aggregate-ring-modes
+slice-aggregate-ring-modes c = search needs
 
-slice-aggregate-line : tie.Need-slice-aggregate-line
-slice-aggregate-line c = let r = c .before .before in let s = r .before .before .before .before in rw (line-is r) (omega (arith, long s))
-
-slice-aggregate-line-2 : tie.Need-slice-aggregate-line-2
-slice-aggregate-line-2 c = search needs
-
-slice-aggregate-line-3 : tie.Need-slice-aggregate-line-3
-slice-aggregate-line-3 c = search needs
-
-line-requires : tie.Need-line-requires
-line-requires c κs =
-    let r = c .before .before .before .before in
-    let s = r .before .before .before .before in
-    rw (line-is r)
-    (ring-small (s .args .h .now) (s .pre .0 .0) (s .pre .0 .1) (s .pre .0 .2), ((omega (arith, long s, s .pre .0), s .pre .1 .0), (omega (arith, long s, s .pre .0), omega (arith, long s, s .pre .0))))
-
--- the segments held are the modes of the opened line
-held : (c : tie.After-line)
-    → segmentsHeld (c .line .last .1 .1 .0) (c .line .last .1 .1 .1 .0) 0 (c .line .result) ≡ lineModes (closenessOf (c .before .before .before .before .before .before .before .before .before .args .setting)) (opened (c .before .before .before .before .before .before .before .before .before .args .h .now))
-held c = rw (line-is (c .before .before .before .before .before)) at (c .line .ensures)
-
-fewer : (c : tie.After-line) → c .line .result ≤ length (c .before .before .before .before .before .before .before .before .before .args .h .now)
-fewer c = let s = c .before .before .before .before .before .before .before .before .before in ring-listed-count (closenessOf (s .args .setting)) (s .args .h .now) _ _ (c .line .result) (s .pre .0 .0) (held c)
+ring-modes-requires : tie.Need-ring-modes-requires
+ring-modes-requires c κs = search needs
 
 slice-aggregate-ring-numbers : tie.Need-slice-aggregate-ring-numbers
 slice-aggregate-ring-numbers c = search needs
 
 ring-numbers-requires : tie.Need-ring-numbers-requires
 ring-numbers-requires c κs =
-    let l = c .before .before .before .before in
-    let s = l .before .before .before .before .before .before .before .before .before in
-    let o = l .before .before .before .before .before .open-ring .ensures .0 in
-    ((omega (arith, fewer l, l .line .kept, s .pre .0), omega (arith, fewer l, s .pre .1)), (rw o (opening-in (s .args .h .now) (omega (arith, s .pre .0))), s .pre .0 .1))
+    let m = c .before .before .before in
+    let s = entry m in
+    let at : m .ring-modes .result .opening < length (s .args .h .now) = omega (arith, m .ring-modes .ensures .0, opening-in (s .args .h .now) (omega (arith, s .pre .0))) in
+    ((omega (arith, few m, s .pre .0, m .ring-modes .kept), omega (arith, few m, s .pre .1)), (at, s .pre .0 .1))
 
 cast-result : tie.Need-cast-result
-cast-result c = let l = c .before .before .before .before .before .before .before in omega (arith, fewer l, l .before .before .before .before .before .before .before .before .before .pre .0)
+cast-result c = let m = modes (numbered c) in omega (arith, few m, entry m .pre .0)
 
 same-length : tie.Need-same-length
 same-length c = search needs
 
 returns : tie.Need-returns
 returns c =
-    let l = c .before .before .before .before .before .before .before in
-    let s = l .before .before .before .before .before .before .before .before .before in
-    let n = c .before .before .ring-numbers in (
-      ring-listed-length (closenessOf (s .args .setting)) (s .args .h .now) _ _ (l .line .result) (s .pre .0 .0) (held l),
-      n .ensures
+    let n = numbered c in
+    let m = modes n in
+    let s = entry m in
+    let e = closenessOf (s .args .setting) in
+    let h = s .args .h .now in
+    let listed = ring-separators e h in (
+      m .ring-modes .ensures .1 ∙ sym (ap length listed ∙ length-map (map (λ (x : Segment). x .start) (ringModes e h)) _ ∙ length-map (ringModes e h) _),
+      n .ring-numbers .ensures
           ∙ ap (λ (xs : List ℕ). over xs (s .args .list .now))
-          (ap (λ (k : ℕ). map (λ (x : ℕ). (k + x) % length (s .args .h .now)) (take (l .line .result) (l .line .last .1 .1 .0))) (l .before .before .before .before .before .open-ring .ensures .0)
-          ∙ ring-numbers-listed (closenessOf (s .args .setting)) (s .args .h .now) _ _ (l .line .result) (s .pre .0 .0) (held l) (omega (arith, fewer l, l .line .kept, s .pre .0))),
+          (ap₂ (λ (k : ℕ) (xs : List ℕ). map (λ (x : ℕ). (k + x) % length h) xs) (m .ring-modes .ensures .0) (starts m) ∙ sym listed),
     )
 
 pub ring-separators-spec : {M : Type 1} → statement M
 ring-separators-spec =
     tie.close
     (tie.spec
-    slice-aggregate-open-ring
-    open-ring-requires
-    add-end
-    array-share-prefix-opened
-    slice-aggregate-line
-    slice-aggregate-line-2
-    slice-aggregate-line-3
-    line-requires
+    slice-aggregate-ring-modes
+    ring-modes-requires
     slice-aggregate-ring-numbers
     ring-numbers-requires
     cast-result

@@ -1,4 +1,4 @@
--- `ring_numbers` meets its contract. The loop's invariant: the places passed hold the numbers of the separators passed. Assumes nothing.
+-- `ring_numbers` meets its contract. The loop's invariant: so many places have their bins' numbers. Assumes nothing.
 use mathlib.Core.Path.{_≡_, sym, ap, _∙_}
 use mathlib.Core.List.{map}
 use Prim.Native.Nat.{ℕ, _+_, _-_, _%_, _≤_}
@@ -12,11 +12,11 @@ use Rattle.segmentation.proofs.rings.ring_numbers.Statement.{statement}
 use Rattle.segmentation.proofs.rings.ring_numbers.Tie as tie
 
 abbrev Inv-loop : tie.InvT-loop
-Inv-loop separators n opening bins out₀ i₀ out i =
-    (i ≤ n) × (length out ≡ length out₀) × (out ≡ over (map (λ (s : ℕ). (opening + s) % bins) (take i separators)) out₀)
+Inv-loop places n opening bins out₀ i₀ out i =
+    (i ≤ n) × (length out ≡ length out₀) × (out ≡ over (map (λ (s : ℕ). (opening + s) % bins) (take i places)) out₀)
 
 abbrev μ-loop : tie.MeasureT-loop
-μ-loop separators n opening bins out₀ i₀ out i = n - i
+μ-loop places n opening bins out₀ i₀ out i = n - i
 
 loop-holds : tie.Need-loop-holds Inv-loop μ-loop
 loop-holds c = (search needs, search needs, sym (over-none _))
@@ -39,7 +39,7 @@ rem-bin c = search needs
 cast-out : tie.Need-cast-out Inv-loop μ-loop
 cast-out c =
     let args = c .before .before .before .args in
-    omega (arith, mod-lt (args .opening + getD (args .separators .now) (c .before .before .loop .i) 0) {m = args .bins} (omega arith))
+    omega (arith, mod-lt (args .opening + getD (args .places .now) (c .before .before .loop .i) 0) {m = args .bins} (omega arith))
 
 mul-out : tie.Need-mul-out Inv-loop μ-loop
 mul-out c = search needs
@@ -60,7 +60,7 @@ loop-again c =
     let pre = c .before .before .before .pre in (
       omega arith,
       simp length-set (l .inv .1),
-      rw (l .inv .2) (over-map (λ (s : ℕ). (args .opening + s) % args .bins) (args .separators .now) (args .out .now) 0 (l .i) (omega arith) (omega arith)),
+      rw (l .inv .2) (over-map (λ (s : ℕ). (args .opening + s) % args .bins) (args .places .now) (args .out .now) 0 (l .i) (omega arith) (omega arith)),
     )
 
 same-length : tie.Need-same-length Inv-loop μ-loop
@@ -71,7 +71,7 @@ returns c =
     let l = c .before .loop in
     let args = c .before .before .args in
     let e : l .i ≡ args .n = omega arith in
-    l .inv .2 ∙ ap (λ (k : ℕ). over (map (λ (s : ℕ). (args .opening + s) % args .bins) (take k (args .separators .now))) (args .out .now)) e
+    l .inv .2 ∙ ap (λ (k : ℕ). over (map (λ (s : ℕ). (args .opening + s) % args .bins) (take k (args .places .now))) (args .out .now)) e
 
 pub ring-numbers-spec : {M : Type 1} → statement M
 ring-numbers-spec =

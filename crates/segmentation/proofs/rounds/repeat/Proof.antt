@@ -22,20 +22,20 @@ abbrev μ-loop : tie.MeasureT-loop
 loop-holds : tie.Need-loop-holds Inv-loop μ-loop
 loop-holds c = (omega arith, refl, λ m l. refl, λ m l. absurd (omega arith))
 
-add-x : tie.Need-add-x Inv-loop μ-loop
-add-x c = search needs
+add-later : tie.Need-add-later Inv-loop μ-loop
+add-later c = search needs
 
-mul-x : tie.Need-mul-x Inv-loop μ-loop
-mul-x c = search needs
+mul-later : tie.Need-mul-later Inv-loop μ-loop
+mul-later c = search needs
 
-slice-read-x : tie.Need-slice-read-x Inv-loop μ-loop
-slice-read-x c = search needs
+slice-read-later : tie.Need-slice-read-later Inv-loop μ-loop
+slice-read-later c = search needs
 
-cast-x : tie.Need-cast-x Inv-loop μ-loop
-cast-x c = search needs
+cast-later : tie.Need-cast-later Inv-loop μ-loop
+cast-later c = search needs
 
-add-x-2 : tie.Need-add-x-2 Inv-loop μ-loop
-add-x-2 c =
+add-later-2 : tie.Need-add-later-2 Inv-loop μ-loop
+add-later-2 c =
     let l = c .before .before .loop in
     let s = c .before .before .before in
     omega (arith, l .inv .2 (s .args .from + l .k) (omega arith), s .pre .2 (l .k) (omega arith))
@@ -80,4 +80,4 @@ returns c =
 pub repeat-spec : {M : Type 1} → statement M
 repeat-spec =
     tie.close
-    (tie.spec Inv-loop μ-loop loop-holds add-x mul-x slice-read-x cast-x add-x-2 add-a add-a-2 mul-a slice-write-a add-k loop-less loop-again same-length returns)
+    (tie.spec Inv-loop μ-loop loop-holds add-later mul-later slice-read-later cast-later add-later-2 add-a add-a-2 mul-a slice-write-a add-k loop-less loop-again same-length returns)

@@ -1,4 +1,4 @@
--- `cheapest_below` meets its contract. The loop's invariant: what is found so far is the leftmost of the lowest among the runs passed, where it is below 0. Assumes nothing.
+-- `cheapest_below` meets its contract. The loop's invariant: what is found so far is the first of the lowest among the runs passed, where it is below 0. Assumes nothing.
 use Prim.Native.Nat.{ℕ, suc, _+_, _-_, _≤_}
 use mathlib.Core.Path.{_≡_, ap, _∙_}
 use mathlib.Core.List.{List}
@@ -11,28 +11,25 @@ use Rattle.segmentation.specs.Joining.{Join, lineReader, joinOf}
 use Rattle.segmentation.specs.Held.{segmentsHeld}
 use Rattle.verdict.specs.Test.{Closeness}
 use Rattle.verdict.specs.Settings.{closenessOf}
-use Rattle.segmentation.proofs.Searching.{Searched, searched-none, searched-more, searched-all, soFar}
+use Rattle.segmentation.proofs.Searching.{Searched, searched-none, searched-more, searched-to, soFar}
 use Rattle.segmentation.proofs.runs.cheapest_below.Statement.{statement}
 use Rattle.segmentation.proofs.runs.cheapest_below.Tie as tie
 
 -- the runs of len segments
-abbrev runs : (h : List ℕ) (e : Closeness) (separators peaks : List ℕ) (n len : ℕ) → ℕ → Join
-runs h e separators peaks n len k = joinOf e (lineReader h) (segmentsHeld separators peaks 0 n) k len
+abbrev runs : (h : List ℕ) (e : Closeness) (separators peaks : List ℕ) (held len : ℕ) → ℕ → Join
+runs h e separators peaks held len k = joinOf e (lineReader h) (segmentsHeld separators peaks 0 held) k len
 
 abbrev Inv-loop : tie.InvT-loop
-Inv-loop sheet h setting separators peaks n len best₀ i₀ best i = (i + len ≤ n + 1) × Searched (runs h (closenessOf setting) separators peaks n len) i best
+Inv-loop sheet h setting separators peaks held starts len best₀ i₀ best i = (i ≤ starts) × Searched (runs h (closenessOf setting) separators peaks held len) i best
 
 abbrev μ-loop : tie.MeasureT-loop
-μ-loop sheet h setting separators peaks n len best₀ i₀ best i = n + 1 - i
+μ-loop sheet h setting separators peaks held starts len best₀ i₀ best i = starts - i
 
 nothing-requires : tie.Need-nothing-requires Inv-loop μ-loop
 nothing-requires c κs = search needs
 
 loop-holds : tie.Need-loop-holds Inv-loop μ-loop
 loop-holds c = (search needs, searched-none _ _ (c .nothing .ensures .0) (c .nothing .ensures .1))
-
-add-loop : tie.Need-add-loop Inv-loop μ-loop
-add-loop c = search needs
 
 least-is : (c : tie.At-loop Inv-loop μ-loop) → toZ w64 (ofZ w64 (c .loop .best .join .cost)) ≡ c .loop .best .join .cost
 least-is c = handed-back (omega (arith, c .loop .inv .1 .small))
@@ -41,7 +38,7 @@ run-requires : tie.Need-run-requires Inv-loop μ-loop
 run-requires c κs =
     let a = c .before .before in
     let s = a .before .before .before .before .before in
-    rw (least-is a) (s .pre .0, (s .pre .1 .0, search needs, a .loop .inv .1 .small))
+    rw (least-is a) (s .pre .0, (s .pre .1 .0 (a .loop .i) (search needs), (s .pre .1 .1 .0, search needs, a .loop .inv .1 .small)))
 
 better-requires : tie.Need-better-requires Inv-loop μ-loop
 better-requires c κs = search needs
@@ -63,9 +60,9 @@ returns : tie.Need-returns Inv-loop μ-loop
 returns c =
     let a = c .before in
     let s = a .before .before .before .before .before in
-    let q : a .loop .i ≡ suc (s .args .n - s .args .len) = omega arith in
-    a .loop .inv .1 .same ∙ ap (soFar (runs (s .args .h .now) (closenessOf (s .args .setting)) (s .args .separators .now) (s .args .peaks .now) (s .args .n) (s .args .len))) q
-    ∙ searched-all (closenessOf (s .args .setting)) (lineReader (s .args .h .now)) (s .args .separators .now) (s .args .peaks .now) (s .args .n) (s .args .len)
+    let q : a .loop .i ≡ suc (s .args .starts - 1) = omega (arith, s .pre .1 .1) in
+    a .loop .inv .1 .same ∙ ap (soFar (runs (s .args .h .now) (closenessOf (s .args .setting)) (s .args .separators .now) (s .args .peaks .now) (s .args .held) (s .args .len))) q
+    ∙ searched-to (closenessOf (s .args .setting)) (lineReader (s .args .h .now)) (segmentsHeld (s .args .separators .now) (s .args .peaks .now) 0 (s .args .held)) (s .args .starts - 1) (s .args .len)
 
 pub cheapest-below-spec : {M : Type 1} → statement M
 cheapest-below-spec =
@@ -75,7 +72,6 @@ cheapest-below-spec =
     μ-loop
     nothing-requires
     loop-holds
-    add-loop
     run-requires
     better-requires
     add-i

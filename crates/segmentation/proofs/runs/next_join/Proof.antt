@@ -1,50 +1,91 @@
 -- `next_join` meets its contract. The loop's invariant: what comes next is what the lengths that are left give. Assumes nothing.
-use Prim.Native.Nat.{_+_, _-_, _≤_}
-use mathlib.Core.Path.{_≡_, sym, _∙_}
+use Prim.Native.Nat.{ℕ, suc, _+_, _-_, _≤_}
+use mathlib.Core.Path.{_≡_, sym, ap, ap₂, _∙_}
+use mathlib.Core.Bool.{Bool, true, false}
 use mathlib.Core.List.{List}
 use native.Mathlib.Omega.{arith}
-use lib.ListN.{length}
 use borrow.Author.Needs.{needs}
 use Rattle.segmentation.specs.Segments.{Segment}
-use Rattle.segmentation.specs.Joining.{lineReader, nextJoin}
-use Rattle.segmentation.specs.Held.{segmentsHeld}
+use Rattle.segmentation.specs.Joining.{Join, lineReader, lastStart, cheapest, nextAmong}
+use Rattle.segmentation.specs.Held.{segmentsHeld, joinFound}
+use Rattle.segmentation.specs.Runs.{heldCount, whereBelow}
+use Rattle.verdict.specs.Test.{Closeness}
 use Rattle.verdict.specs.Settings.{closenessOf}
-use Rattle.segmentation.proofs.Holding.{held-length}
 use Rattle.segmentation.proofs.Searching.{fromLength, from-two, length-found, length-passed, no-length}
 use Rattle.segmentation.proofs.runs.next_join.Statement.{statement}
 use Rattle.segmentation.proofs.runs.next_join.Tie as tie
 
+-- the cheapest run of each length
+abbrev pick : (h : List ℕ) (e : Closeness) (separators peaks : List ℕ) (n : ℕ) (round : Bool) → ℕ → Join
+pick h e separators peaks n round len = cheapest e (lineReader h) (segmentsHeld separators peaks 0 (heldCount round n)) (lastStart round n len) len
+
+-- a run of len of the segments ends among those held
+run-held : (round : Bool) (n len : ℕ) → 2 ≤ len → len ≤ n → suc (lastStart round n len) + len ≤ heldCount round n + 1
+run-held true n len a b = omega arith
+run-held false n len a b = omega arith
+
 abbrev Inv-loop : tie.InvT-loop
-Inv-loop sheet h setting separators peaks n len₀ len =
-    let ss = segmentsHeld separators peaks 0 n in
-    (2 ≤ len) × (len ≤ n + 1) × (nextJoin (closenessOf setting) (lineReader h) ss ≡ fromLength (closenessOf setting) (lineReader h) ss len)
+Inv-loop sheet h setting separators peaks n round held len₀ len =
+    (2 ≤ len) × (len ≤ n + 2)
+    × (nextAmong (closenessOf setting) (lineReader h) (segmentsHeld separators peaks 0 (heldCount round n)) round n ≡ fromLength (pick h (closenessOf setting) separators peaks n round) n len)
 
 abbrev μ-loop : tie.MeasureT-loop
-μ-loop sheet h setting separators peaks n len₀ len = n + 1 - len
+μ-loop sheet h setting separators peaks n round held len₀ len = n + 2 - len
 
--- the segments, and how many
-abbrev segments : tie.Start Inv-loop μ-loop → List Segment
-segments s = segmentsHeld (s .args .separators .now) (s .args .peaks .now) 0 (s .args .n)
+-- ---- the ways to the function's entry, and to the head of the loop
+abbrev entry : tie.After-held-count Inv-loop μ-loop → tie.Start Inv-loop μ-loop
+entry c = c .before .before .before .before
 
-count : (s : tie.Start Inv-loop μ-loop) → length (segments s) ≡ s .args .n
-count s = held-length (s .args .separators .now) (s .args .peaks .now) 0 (s .args .n)
+abbrev counted : tie.At-loop Inv-loop μ-loop → tie.After-held-count Inv-loop μ-loop
+counted c = c .before
+
+abbrev tried : tie.After-cheapest-below Inv-loop μ-loop → tie.At-loop Inv-loop μ-loop
+tried c = c .before .before .before
+
+-- the cheapest runs of the segments held, and the segments
+abbrev picks : tie.After-held-count Inv-loop μ-loop → ℕ → Join
+picks c = let a = entry c .args in pick (a .h .now) (closenessOf (a .setting)) (a .separators .now) (a .peaks .now) (a .n) (a .round)
+
+abbrev segments : tie.After-held-count Inv-loop μ-loop → List Segment
+segments c = let a = entry c .args in segmentsHeld (a .separators .now) (a .peaks .now) 0 (heldCount (a .round) (a .n))
+
+held-count-requires : tie.Need-held-count-requires Inv-loop μ-loop
+held-count-requires c κs = search needs
 
 loop-holds : tie.Need-loop-holds Inv-loop μ-loop
 loop-holds c =
-    let s = c .before .before .before in
-    (omega arith, omega (arith, s .pre .1 .1 .1 .nonEmpty, count s), from-two (closenessOf (s .args .setting)) (lineReader (s .args .h .now)) (segments s))
+    let a = entry c .args in
+    (omega arith, omega arith, from-two (closenessOf (a .setting)) (lineReader (a .h .now)) (segments c) (a .round) (a .n))
+
+start-count-requires : tie.Need-start-count-requires Inv-loop μ-loop
+start-count-requires c κs = search needs
 
 cheapest-below-requires : tie.Need-cheapest-below-requires Inv-loop μ-loop
 cheapest-below-requires c κs =
-    let s = c .before .before .before .before .before in
-    (record { logs = s .pre .1 .0 .1; small = s .pre .0; close = s .pre .1 .0 .0; places = s .pre .1 .1 .0; cut = s .pre .1 .1 .1 }, (search needs, search needs))
+    let l = c .before .before .loop in
+    let h = counted (c .before .before) in
+    let s = entry h in
+    let len = l .len in
+    let some : len ≤ s .args .n = omega arith in
+    rw (h .held-count .ensures, c .start-count .ensures)
+    (s .pre .0, (s .pre .1 .0 len (l .inv .0) some, (omega (arith, l .inv .0), omega arith, run-held (s .args .round) (s .args .n) len (l .inv .0) some)))
+
+-- what is found is that of the length tried
+found : (c : tie.After-cheapest-below Inv-loop μ-loop) → joinFound (c .cheapest-below .result .found) (c .cheapest-below .result .join) ≡ whereBelow (picks (counted (tried c)) (tried c .loop .len))
+found c =
+    let h = counted (tried c) in
+    let a = entry h .args in
+    let len = tried c .loop .len in
+    let last : c .before .start-count .result - 1 ≡ lastStart (a .round) (a .n) len = ap (λ (k : ℕ). k - 1) (c .before .start-count .ensures) ∙ omega arith in
+    c .cheapest-below .ensures
+    ∙ ap₂ (λ (held starts : ℕ). whereBelow (cheapest (closenessOf (a .setting)) (lineReader (a .h .now)) (segmentsHeld (a .separators .now) (a .peaks .now) 0 held) starts len))
+    (h .held-count .ensures) last
 
 returns : tie.Need-returns Inv-loop μ-loop
 returns c =
-    let b = c .before .cheapest-below in
-    let a = c .before .before .before in
-    let s = a .before .before .before .before in
-    length-found (closenessOf (s .args .setting)) (lineReader (s .args .h .now)) (segments s) (a .loop .len) (b .result) (omega (arith, count s)) (b .ensures) (c .if1 .taken) ∙ sym (a .loop .inv .2)
+    let b = c .before in
+    let a = tried b in
+    length-found (picks (counted a)) (entry (counted a) .args .n) (a .loop .len) (b .cheapest-below .result) (omega arith) (found b) (c .if1 .taken) ∙ sym (a .loop .inv .2)
 
 add-len : tie.Need-add-len Inv-loop μ-loop
 add-len c = search needs
@@ -54,12 +95,11 @@ loop-less c = search needs
 
 loop-again : tie.Need-loop-again Inv-loop μ-loop
 loop-again c =
-    let b = c .before .cheapest-below in
-    let a = c .before .before .before in
-    let s = a .before .before .before .before in (
+    let b = c .before in
+    let a = tried b in (
       omega arith,
       omega arith,
-      a .loop .inv .2 ∙ length-passed (closenessOf (s .args .setting)) (lineReader (s .args .h .now)) (segments s) (a .loop .len) (b .result) (omega (arith, count s)) (b .ensures) (c .if1 .left),
+      a .loop .inv .2 ∙ length-passed (picks (counted a)) (entry (counted a) .args .n) (a .loop .len) (b .cheapest-below .result) (omega arith) (found b) (c .if1 .left),
     )
 
 nothing-requires : tie.Need-nothing-requires Inv-loop μ-loop
@@ -68,8 +108,21 @@ nothing-requires c κs = search needs
 returns-2 : tie.Need-returns-2 Inv-loop μ-loop
 returns-2 c =
     let a = c .before .before in
-    let s = a .before .before .before .before in
-    rw (c .nothing .ensures .0) (sym (a .loop .inv .2 ∙ no-length (closenessOf (s .args .setting)) (lineReader (s .args .h .now)) (segments s) (a .loop .len) (omega (arith, count s))))
+    rw (c .nothing .ensures .0) (sym (a .loop .inv .2 ∙ no-length (picks (counted a)) (entry (counted a) .args .n) (a .loop .len) (omega arith)))
 
 pub next-join-spec : {M : Type 1} → statement M
-next-join-spec = tie.close (tie.spec Inv-loop μ-loop loop-holds cheapest-below-requires returns add-len loop-less loop-again nothing-requires returns-2)
+next-join-spec =
+    tie.close
+    (tie.spec
+    Inv-loop
+    μ-loop
+    held-count-requires
+    loop-holds
+    start-count-requires
+    cheapest-below-requires
+    returns
+    add-len
+    loop-less
+    loop-again
+    nothing-requires
+    returns-2)

@@ -1,7 +1,6 @@
--- `run` meets its contract: its two stretches lie within the line, and with these caps the smaller cost is exact where it is below `least`. Assumes nothing.
+-- `run` meets its contract: with these caps the smaller cost is exact where it is below `least`. Assumes nothing.
 use Prim.Native.Nat.{_^_, _<_}
 use mathlib.Core.Path.{_≡_}
-use lib.ListN.{length}
 use lib.IntN.{ℤ}
 use lib.Signed.{ltZ, mag}
 use mir.Syntax.{w64}
@@ -11,7 +10,7 @@ use borrow.Author.Needs.{needs}
 use Rattle.lists.proofs.Cases.{by-cond}
 use Rattle.verdict.proofs.Machine.{handed-back}
 use Rattle.verdict.specs.Settings.{closenessOf}
-use Rattle.segmentation.proofs.Searching.{fall-inside, rise-inside, run-is, choice}
+use Rattle.segmentation.proofs.Searching.{run-is, choice}
 use Rattle.segmentation.proofs.runs.run.Statement.{statement}
 use Rattle.segmentation.proofs.runs.run.Tie as tie
 
@@ -70,10 +69,8 @@ least-is c = toZ-ofZ w64 (entry c .args .least) (entry c .fits .least)
 stretch-cost-requires : tie.Need-stretch-cost-requires
 stretch-cost-requires c κs =
     let s = entry c in
-    let line = s .pre .0 in
-    let f = fall-inside (s .args .separators .now) (s .args .peaks .now) (length (s .args .h .now)) (s .args .n) (line .cut) (s .args .i) (s .args .len) (s .pre .1 .0) (s .pre .1 .1) in
     rw (c .before .before .before .before .before .before .wide .ensures, c .before .before .before .before .wide2 .ensures, least-is c)
-    (line .small, (f .0, f .1, line .close, s .pre .1 .2, line .logs))
+    (s .pre .1 .0 .fall, (s .pre .0 .close, s .pre .1 .1 .2, s .pre .0 .logs))
 
 smaller-requires : tie.Need-smaller-requires
 smaller-requires c κs = search needs
@@ -82,15 +79,13 @@ stretch-cost-requires-2 : tie.Need-stretch-cost-requires-2
 stretch-cost-requires-2 c κs =
     let w = c .before .before in
     let s = entry w in
-    let line = s .pre .0 in
-    let r = rise-inside (s .args .separators .now) (s .args .peaks .now) (length (s .args .h .now)) (s .args .n) (line .cut) (s .args .i) (s .args .len) (s .pre .1 .0) (s .pre .1 .1) in
     let fall = c .before .stretch-cost in
     let m : mag (c .smaller .result) < 2 ^ 62 =
     rw (c .smaller .ensures, handed-back (fall .ok), least-is w)
-    (by-cond (λ (z : ℤ). mag z < 2 ^ 62) (ltZ (fall .result) (s .args .least)) (fall .result) (s .args .least) (λ e. fall .ensures .small) (λ e. s .pre .1 .2))
+    (by-cond (λ (z : ℤ). mag z < 2 ^ 62) (ltZ (fall .result) (s .args .least)) (fall .result) (s .args .least) (λ e. fall .ensures .small) (λ e. s .pre .1 .1 .2))
     in
     rw (w .before .before .wide3 .ensures, w .wide4 .ensures, handed-back (c .smaller .ok))
-    (line .small, (r .0, r .1, line .close, m, line .logs))
+    (s .pre .1 .0 .rise, (s .pre .0 .close, m, s .pre .0 .logs))
 
 by-costs-requires : tie.Need-by-costs-requires
 by-costs-requires c κs = search needs
@@ -104,7 +99,7 @@ returns c =
     let cf = rw (w .before .before .before .before .before .before .wide .ensures, w .before .before .before .before .wide2 .ensures, least-is w) at (fall .ensures) in
     let cr = rw (w .before .before .wide3 .ensures, w .wide4 .ensures, handed-back (c .before .before .smaller .ok), c .before .before .smaller .ensures, handed-back (fall .ok), least-is w) at (rise .ensures) in
     rw (
-      run-is (closenessOf (s .args .setting)) (s .args .h .now) (s .args .separators .now) (s .args .peaks .now) (s .args .n) (s .args .i) (s .args .len) (s .pre .1 .0) (s .pre .1 .1),
+      run-is (closenessOf (s .args .setting)) (s .args .h .now) (s .args .separators .now) (s .args .peaks .now) (s .args .held) (s .args .i) (s .args .len) (s .pre .1 .1 .0) (s .pre .1 .1 .1),
       c .by-costs .ensures,
       handed-back (rise .ok),
       handed-back (fall .ok),

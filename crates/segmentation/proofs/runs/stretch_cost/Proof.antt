@@ -6,7 +6,7 @@ use mir.ValLaws.{toZ-ofZ}
 use borrow.Author.Needs.{needs}
 use Rattle.lists.specs.Lists.{part}
 use Rattle.verdict.proofs.Machine.{handed-back}
-use Rattle.segmentation.proofs.Searching.{part-small, part-some}
+use Rattle.segmentation.proofs.RunsInside.{part-some}
 use Rattle.segmentation.proofs.runs.stretch_cost.Statement.{statement}
 use Rattle.segmentation.proofs.runs.stretch_cost.Tie as tie
 
@@ -30,8 +30,8 @@ unfolding part
 capped-cost-requires c κs =
     let s = c .before .before in
     rw (add-one, toZ-ofZ w64 (s .args .cap) (s .fits .cap)) (
-      part-small (s .args .i) (s .args .j) (s .args .h .now) (omega arith) (s .pre .0),
-      ((part-some (s .args .i) (s .args .j) (s .args .h .now) (omega arith) (omega arith), s .pre .1 .2), (s .pre .1 .3, s .pre .1 .4)),
+      s .pre .0 .small,
+      ((part-some (s .args .i) (s .args .j) (s .args .h .now) (s .pre .0 .ends .0) (s .pre .0 .ends .1), s .pre .1 .0), (s .pre .1 .1, s .pre .1 .2)),
     )
 
 returns : tie.Need-returns
