@@ -15,10 +15,8 @@ use Rattle.pixel.specs.Ranges.{Bytes}
 use Rattle.pixel.proofs.Ranges.{intensity-le, saturation-le, hue-bin-le}
 use Rattle.verdict.specs.Test.{Closeness}
 use Rattle.segmentation.specs.Segments.{binAt}
-use Rattle.segmentation.specs.Ring.{opened}
 use Rattle.segmentation.proofs.OneMode.{one-mode}
 use Rattle.segmentation.proofs.Finishing.{modes-cut}
-use Rattle.segmentation.proofs.RingPlaces.{ring-length}
 use Rattle.segmentation.proofs.RingModes.{ring-one-mode}
 use Rattle.segmentation.proofs.Always.{always-finished, ring-always-finished}
 use Rattle.palette.specs.Levels.{Level, hue, saturation, intensity, binCount, binOf, histogram, modesAt, liesIn, FinishedAt}
@@ -51,8 +49,7 @@ histogram-total l ps bytes =
 -- ---- its modes
 pub bin-in-one-mode : (e : Closeness) (l : Level) (h : List ℕ) → length h ≡ binCount l
     → (b : ℕ) → b < binCount l → ExactlyOne (length (modesAt e l h)) (λ m. liesIn e l h m b)
-bin-in-one-mode e hue h n b k =
-    ring-one-mode e h (omega arith) (one-mode (length (opened h)) _ (modes-cut e (opened h) (omega (arith, ring-length h (omega arith))))) b
+bin-in-one-mode e hue h n b k = ring-one-mode h (omega arith) e b
 bin-in-one-mode e saturation h n b k = one-mode (length h) _ (modes-cut e h (omega arith)) b (omega arith)
 bin-in-one-mode e intensity h n b k = one-mode (length h) _ (modes-cut e h (omega arith)) b (omega arith)
 

@@ -19,6 +19,6 @@ pub mod RoundOne
 mod RunsInside
 mod HeldTwice
 pub mod RingModes
-pub mod RingFilled
+pub mod Filled
 pub mod Loose
 mod Listed

@@ -31,10 +31,10 @@ either : (x y : Bool) (P : Type 0) → (x ≡ true → P) → (y ≡ true → P)
 either true y P f g e = f refl
 either false y P f g e = g e
 
-left-or : (x y : Bool) → x ≡ true → (x || y) ≡ true
+pub left-or : (x y : Bool) → x ≡ true → (x || y) ≡ true
 left-or x y e = rw e refl
 
-right-or : (x y : Bool) → y ≡ true → (x || y) ≡ true
+pub right-or : (x y : Bool) → y ≡ true → (x || y) ≡ true
 right-or x y e = rw e (or-true x)
 
 module _ (bins : ℕ) (ss : List Segment) (c : RingCut bins ss) (p : ℕ) (l : p < bins) where
