@@ -7,28 +7,26 @@ use Rattle.verdict.specs.Test.{Closeness}
 use Rattle.palette.specs.Levels.{Level, saturation, intensity, modesAt}
 use Rattle.dividing.specs.Splitting.{modeOf}
 
--- the modes of a line start at these places: the first at 0, and each after the one before it
-pub record RisesFromZero (separators : List ℕ) : Type 0 where
+-- modes start at these places: there is one, and each starts after the one before it
+pub record Rises (separators : List ℕ) : Type 0 where
   pub some : 0 < length separators
-  pub zero : getD separators 0 0 ≡ 0
   pub rises : (m : ℕ) → suc m < length separators → getD separators m 0 < getD separators (suc m) 0
 
--- mode m begins at or before place i, and the next one not before it
-pub record NotPassed (separators : List ℕ) (m i : ℕ) : Type 0 where
+-- the place before place i lies in mode m: the last one that starts before place i; where none does, the last of all, which goes on round the ring to the first
+pub record ModeBefore (separators : List ℕ) (m i : ℕ) : Type 0 where
   pub mode : m < length separators
-  pub begun : getD separators m 0 ≤ i
-  pub notYet : suc m < length separators → i ≤ getD separators (suc m) 0
+  pub noneYet : i ≤ getD separators 0 0 → suc m ≡ length separators
+  pub begun : getD separators 0 0 < i → getD separators m 0 < i
+  pub notNext : getD separators 0 0 < i → suc m < length separators → i ≤ getD separators (suc m) 0
 
--- mode m begins at or before place i and is the last to do so
-pub record Begun (separators : List ℕ) (m i : ℕ) : Type 0 where
-  pub mode : m < length separators
-  pub begun : getD separators m 0 ≤ i
-  pub notNext : suc m < length separators → i < getD separators (suc m) 0
+-- place i lies in mode m
+abbrev pub ModeAt : List ℕ → ℕ → ℕ → Type 0
+ModeAt separators m i = ModeBefore separators m (suc i)
 
--- each place's bin bears the mode that has begun there
+-- each place's bin bears its mode
 abbrev pub PlacesNumbered : List ℕ → ℕ → List ℕ → Type 0
 PlacesNumbered separators opening modes =
-    (i : ℕ) → i < length modes → (m : ℕ) × Begun separators m i × (getD modes ((opening + i) % length modes) 0 ≡ m)
+    (i : ℕ) → i < length modes → (m : ℕ) × ModeAt separators m i × (getD modes ((opening + i) % length modes) 0 ≡ m)
 
 -- n modes, and each bin bears its mode
 pub record BinsNumbered (e : Closeness) (l : Level) (h : List ℕ) (modes : List ℕ) (n : ℕ) : Type 0 where

@@ -130,10 +130,14 @@ module _ (e : Closeness) (h : List ℕ) (two : 2 ≤ length h) (filled : 0 < tot
       let p = r .0 in
       let here = in-arc s p (r .1) (r .2) in
       let end = chain-ends ss (cut .chain) m (length ss - 1) (omega arith) (omega arith) in
-      let most : p < length h + length h = omega (arith, r .2, end, cut .onceRound, cut .firstTurn 0 (cut .nonEmpty)) in
-      (ringBin h p, ring-in p, by-order p (length h)
-      (λ u. rw (bin-place h one p u) (left-or (inArc s p) (inArc s (p + length h)) here))
-      (λ u.
-      let d = p - length h in
-      let z : d + length h ≡ p = omega arith in
-      rw (second p u, bin-place h one d (omega arith), z) (right-or (inArc s d) (inArc s p) here)), r .3)
+      let most : p < length h + length h = omega (arith, r .2, end, cut .onceRound, cut .firstTurn 0 (cut .nonEmpty)) in (
+        ringBin h p,
+        ring-in p,
+        by-order p (length h)
+            (λ u. rw (bin-place h one p u) (left-or (inArc s p) (inArc s (p + length h)) here))
+            (λ u.
+            let d = p - length h in
+            let z : d + length h ≡ p = omega arith in
+            rw (second p u, bin-place h one d (omega arith), z) (right-or (inArc s d) (inArc s p) here)),
+        r .3,
+      )

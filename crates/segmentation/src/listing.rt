@@ -18,7 +18,9 @@ ghost use Rattle.segmentation.specs.Ring.{opening, ringModes, ringSepara
 
 // The bins of the largest ring, of two turns of it, and as many members as are held of its modes twice over.
 const MOST_RING_BINS: usize = MOST_BINS - 1;
+
 const TWO_TURNS: usize = MOST_RING_BINS + MOST_RING_BINS;
+
 const HELD_TWICE: usize = MOST_BINS + MOST_BINS;
 
 // Copies the first n members of one list into the first places of another.

@@ -45,7 +45,13 @@ pub fn write_turns(h: &[u32], first: usize, round: &mut [u32])
 
 // Writes the modes of the ring h, of which `round` has two turns from the opening on. Returns how many there are.
 // The opened line, the first turn with the bin of the opening again at its end, is finished first. A single segment has nothing to join, and needs no sheet.
-pub fn ring(h: &[u32], round: &[u32], setting: u32, separators: &mut [u32], peaks: &mut [u32]) -> usize
+pub fn ring(
+    h: &[u32],
+    round: &[u32],
+    setting: u32,
+    separators: &mut [u32],
+    peaks: &mut [u32],
+) -> usize
     requires { ⌜ (2 ≤ length (now h)) × (length (now h) ≤ 256) × (total (now h) ≤ 65536) × (now round ≡ twoTurns (now h)) ⌝ }
     requires { ⌜ (setting ≤ lastSetting) × (2 * mostBins ≤ length (now separators)) × (2 * mostBins ≤ length (now peaks)) ⌝ }
     ensures { λ r. ⌜ segmentsHeld (now (separators .exit)) (now (peaks .exit)) 0 r ≡ ringModes (closenessOf setting) (now (h .entry)) ⌝ }

@@ -3,29 +3,33 @@ use Prim.Native.Nat.{ℕ, _+_, _-_, _%_, _≤_, _<_}
 use mathlib.Core.Path.{_≡_, refl, _∙_}
 use native.Mathlib.Omega.{arith}
 use native.Mathlib.Nat.{mod-lt}
+use native.Mathlib.Numerals.{add-one}
 use borrow.Author.Needs.{needs}
 use lib.ListN.{length, getD, length-set}
 use lib.Seq.{getD-set-same, getD-set-other}
 use Rattle.lists.proofs.Cases.{by-order}
-use Rattle.dividing.specs.Numbering.{NotPassed, Begun}
+use Rattle.dividing.specs.Numbering.{ModeBefore, ModeAt}
 use Rattle.dividing.proofs.Turns.{turned-apart}
 use Rattle.dividing.proofs.modes.number_bins.Statement.{statement}
 use Rattle.dividing.proofs.modes.number_bins.Tie as tie
 
 abbrev Inv-loop : tie.InvT-loop
 Inv-loop separators opening modes₀ bins m₀ i₀ modes m i =
-    (i ≤ bins) × (length modes ≡ bins) × NotPassed separators m i
-    × ((k : ℕ) → k < i → (x : ℕ) × Begun separators x k × (getD modes ((opening + k) % bins) 0 ≡ x))
+    (i ≤ bins) × (length modes ≡ bins) × ModeBefore separators m i
+    × ((k : ℕ) → k < i → (x : ℕ) × ModeAt separators x k × (getD modes ((opening + k) % bins) 0 ≡ x))
 
 abbrev μ-loop : tie.MeasureT-loop
 μ-loop separators opening modes₀ bins m₀ i₀ modes m i = bins - i
+
+sub-m : tie.Need-sub-m Inv-loop μ-loop
+sub-m c = c .before .before .pre .0 .some
 
 loop-holds : tie.Need-loop-holds Inv-loop μ-loop
 loop-holds c =
     let p = c .before .before .pre in (
       omega arith,
       refl,
-      record { mode = p .0 .some; begun = omega (arith, p .0 .zero); notYet = λ l. omega arith },
+      record { mode = omega (arith, p .0 .some); noneYet = λ l. omega (arith, p .0 .some); begun = λ l. absurd (omega arith); notNext = λ l. absurd (omega arith) },
       λ k l. absurd (omega arith),
     )
 
@@ -47,7 +51,7 @@ loop-again c =
     let inside : here < length (l .modes) = omega (arith, mod-lt (a .opening + l .i) {m = n} (omega arith), l .inv .1) in (
       omega arith,
       simp length-set (l .inv .1),
-      record { mode = b .mode; begun = omega (arith, b .begun); notYet = λ k. omega (arith, b .notNext k) },
+      rw (add-one (l .i)) b,
       λ k r. by-order k (l .i)
           (λ q.
           let old = l .inv .3 k q in
@@ -69,6 +73,7 @@ number-bins-spec =
     (tie.spec
     Inv-loop
     μ-loop
+    sub-m
     loop-holds
     (λ c κs. search needs)
     (λ c. search needs)

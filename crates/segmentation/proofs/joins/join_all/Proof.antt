@@ -27,7 +27,7 @@ Inv-loop sheet h setting separators₀ peaks₀ n left₀ separators peaks left 
     × (length peaks ≡ length peaks₀)
     × Cut (length h) (segmentsHeld separators peaks 0 left)
     × (joinAll left (lineJoins (closenessOf setting) (lineReader h)) (segmentsHeld separators peaks 0 left)
-        ≡ joinAll n (lineJoins (closenessOf setting) (lineReader h)) (segmentsHeld separators₀ peaks₀ 0 n))
+    ≡ joinAll n (lineJoins (closenessOf setting) (lineReader h)) (segmentsHeld separators₀ peaks₀ 0 n))
 
 abbrev μ-loop : tie.MeasureT-loop
 μ-loop sheet h setting separators₀ peaks₀ n left₀ separators peaks left = left
