@@ -3,7 +3,7 @@ use mathlib.Core.Bool.{true, false}
 use mathlib.Core.List.{List, [], _∷_}
 use lib.IntN.{pos}
 use Rattle.pooling.specs.Blocks.{increasing, decreasing}
-use Rattle.samples.specs.Rows.{Sample, measures, logarithm, fit, mass, verdict, asked, line, modes, inLine, ring, dip, minus, block, mode, AllHold}
+use Rattle.samples.specs.Rows.{Sample, measures, logarithm, fit, mass, verdict, asked, line, modes, inLine, dip, minus, block, mode, AllHold}
 
 abbrev pub guards : List Sample
 guards =
@@ -95,10 +95,6 @@ guards =
     -- the last bin of a line lies in its last mode, and no bin after it
     ∷ inLine (pos 0) (1 ∷ 0 ∷ 4 ∷ []) 0 2 true
     ∷ inLine (pos 0) (1 ∷ 0 ∷ 4 ∷ []) 0 3 false
-    -- a ring opened away from bin 0, at the first of equal lowest bins; separators by its own numbers, modes from the opening
-    ∷ ring (pos 0) (9 ∷ 1 ∷ 9 ∷ 0 ∷ 9 ∷ 0 ∷ []) (3 ∷ 5 ∷ 1 ∷ []) (1 ∷ 2 ∷ 2 ∷ 0 ∷ 0 ∷ 1 ∷ [])
-    -- a flat minimum across the seam
-    ∷ ring (pos 0) (0 ∷ 0 ∷ 9 ∷ 1 ∷ 9 ∷ 0 ∷ []) (0 ∷ 3 ∷ []) (0 ∷ 0 ∷ 0 ∷ 1 ∷ 1 ∷ 1 ∷ [])
     ∷ []
 
 -- proved in proofs/Tables

@@ -1,4 +1,5 @@
 pub mod Rows
 pub mod Starred
 pub mod Guards
+pub mod Rings
 pub mod Printed

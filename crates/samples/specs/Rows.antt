@@ -17,7 +17,7 @@ use Rattle.verdict.specs.declared.Verdict.{Verdict}
 use Rattle.verdict.specs.Test.{Closeness, verdictOf, fittedMass}
 use Rattle.segmentation.specs.Segments.{Segment, inMode}
 use Rattle.segmentation.specs.Joining.{lineModes, lineSeparators}
-use Rattle.segmentation.specs.Ring.{ringSeparators, inRingMode}
+use Rattle.segmentation.specs.Ring.{ringModes, ringSeparators, inRingMode}
 use Rattle.kistrovu.specs.Grounds.{verdictNumber}
 
 pub data Sample : Type 0 where
@@ -37,6 +37,8 @@ pub data Sample : Type 0 where
   modes : Closeness → (bins : List ℕ) → List Segment → Sample
   -- whether bin b lies in mode m of a line
   inLine : Closeness → (bins : List ℕ) → (m b : ℕ) → Bool → Sample
+  -- the modes of a ring, each with its peak, by places from the opening on
+  round : Closeness → (bins : List ℕ) → List Segment → Sample
   -- the separators of a ring from its opening on, and each bin's mode
   ring : Closeness → (bins : List ℕ) → (separators : List ℕ) → (modes : List ℕ) → Sample
 
@@ -72,7 +74,7 @@ pub data Result : Type 0 where
   judged : Verdict → Result
   segments : List Segment → Result
   -- the separators of a ring, and each bin's mode
-  round : List ℕ → List ℕ → Result
+  numbered : List ℕ → List ℕ → Result
 
 -- what the definitions make of a row
 abbrev pub computed : Sample → Result
@@ -86,9 +88,10 @@ computed (asked e h n) = number (verdictNumber e h)
 computed (line e h separators) = places (lineSeparators e h)
 computed (modes e h ss) = segments (lineModes e h)
 computed (inLine e h m b is) = truth (inMode (lineModes e h) m b)
+computed (round e h ss) = segments (ringModes e h)
 computed (ring e h separators ms) =
     let found = ringSeparators e h in
-    round found (map (λ b. firstMode e h (length found) b) (numbers 0 (length h)))
+    numbered found (map (λ b. firstMode e h (length found) b) (numbers 0 (length h)))
 
 -- what the row says
 abbrev pub stated : Sample → Result
@@ -102,7 +105,8 @@ stated (asked e h n) = number n
 stated (line e h separators) = places separators
 stated (modes e h ss) = segments ss
 stated (inLine e h m b is) = truth is
-stated (ring e h separators ms) = round separators ms
+stated (round e h ss) = segments ss
+stated (ring e h separators ms) = numbered separators ms
 
 -- every row of a table holds
 abbrev pub AllHold : List Sample → Type 0
