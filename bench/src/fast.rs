@@ -229,7 +229,7 @@ fn across<S>(
     ControlFlow::Continue(())
 }
 
-/// The segments of a line: one more separator than peaks.
+/// The segments of a line, or of a ring by places from its opening on: one more separator than peaks.
 struct Segments {
     separators: [usize; MOST_BINS],
     peaks: [usize; MOST_BINS],
@@ -241,6 +241,15 @@ struct Join {
     first: usize,
     len: usize,
     peak: usize,
+}
+
+/// Which runs a search looks at: those inside a line, those of a ring that go past its last segment to the first, or all
+/// those of a ring.
+#[derive(Clone, Copy)]
+enum Runs {
+    Inside,
+    Past,
+    Round,
 }
 
 /// How many separators there are; they are the first places of the list, which has one for each bin or more.
@@ -258,15 +267,35 @@ pub fn line_modes_by(
     mut cost: impl FnMut(&[u32], bool, i64) -> i64,
 ) -> usize {
     let mut segments = first_segments(histogram);
-    let mut cost = |bins: RangeInclusive<usize>, rising, cap| cost(&histogram[bins], rising, cap);
-    while let Some(join) = segments.next_join(&mut cost) {
-        segments.join(&join);
-    }
-    let separators = &segments.separators[..=segments.count];
+    segments.join_inside(&mut |bins, rising, cap| cost(&histogram[bins], rising, cap));
+    write(&segments.separators[..=segments.count], list)
+}
+
+/// How many modes a ring has that is given by two turns, from its opening on. Where they start, by places from there, are
+/// the first places of the list. With the opening again at its end a turn is a line of at most `MOST_BINS` bins.
+pub fn ring_modes(turns: &[u32], closeness: i32, list: &mut [u32]) -> usize {
+    let segments = ring_segments(turns, closeness);
+    write(&segments.separators[..segments.count], list)
+}
+
+/// How many separators there are; they are copied to the first places of the list.
+fn write(separators: &[usize], list: &mut [u32]) -> usize {
     for (place, &separator) in list.iter_mut().zip(separators) {
         *place = separator as u32;
     }
     separators.len()
+}
+
+fn ring_segments(turns: &[u32], closeness: i32) -> Segments {
+    let bins = turns.len() / 2;
+    let mut stack = [NO_BLOCK; MOST_BINS];
+    let mut cost = |places: RangeInclusive<usize>, rising, cap| {
+        capped_cost(&turns[places], rising, closeness, cap, &mut stack)
+    };
+    let mut segments = first_segments(&turns[..=bins]);
+    segments.join_inside(&mut cost);
+    segments.join_round(bins, &mut cost);
+    segments
 }
 
 /// One walk: a fall, then a rise, makes a separator of the first bin at the bottom.
@@ -311,23 +340,79 @@ impl Segments {
         self.count -= join.len - 1;
     }
 
+    fn join_inside(&mut self, cost: &mut impl FnMut(RangeInclusive<usize>, bool, i64) -> i64) {
+        while let Some(join) = self.next_join(Runs::Inside, cost) {
+            self.join(&join);
+        }
+    }
+
+    /// Goes on all round a ring of so many bins. Its line is finished, so no run inside that is joinable, and the first
+    /// search leaves those out.
+    fn join_round(
+        &mut self,
+        bins: usize,
+        cost: &mut impl FnMut(RangeInclusive<usize>, bool, i64) -> i64,
+    ) {
+        let mut runs = Runs::Past;
+        while self.count > 1 {
+            self.repeat(bins);
+            let Some(join) = self.next_join(runs, cost) else {
+                return;
+            };
+            let join = self.begin_behind(join);
+            self.join(&join);
+            runs = Runs::Round;
+        }
+    }
+
+    /// Holds the segments a second time, a turn later, so that a run past the last one is a row like any other. No run
+    /// is longer than a turn, so none reaches the end of the last segment of the second turn.
+    fn repeat(&mut self, bins: usize) {
+        for index in 0..self.count {
+            self.peaks[self.count + index] = self.peaks[index] + bins;
+            self.separators[self.count + index] = self.separators[index] + bins;
+        }
+    }
+
+    /// Where the run goes past the last segment, a turn is taken that begins behind it: the run is then the last of that
+    /// turn, which begins at the first separator that is left after the opening.
+    fn begin_behind(&mut self, join: Join) -> Join {
+        let past = (join.first + join.len).saturating_sub(self.count);
+        self.peaks.copy_within(past..past + self.count, 0);
+        self.separators.copy_within(past..=past + self.count, 0);
+        Join {
+            first: join.first - past,
+            ..join
+        }
+    }
+
     fn next_join(
         &self,
+        runs: Runs,
         cost: &mut impl FnMut(RangeInclusive<usize>, bool, i64) -> i64,
     ) -> Option<Join> {
-        (2..=self.count).find_map(|len| self.cheapest(len, cost))
+        (2..=self.count).find_map(|len| {
+            let past = self.count - len + 1;
+            let starts = match runs {
+                Runs::Inside => 0..past,
+                Runs::Past => past..self.count,
+                Runs::Round => 0..self.count,
+            };
+            self.cheapest(len, starts, cost)
+        })
     }
 
     /// Only a cost below all before it counts, and only a rise that is cheaper than its fall: hence the caps.
     fn cheapest(
         &self,
         len: usize,
+        starts: Range<usize>,
         cost: &mut impl FnMut(RangeInclusive<usize>, bool, i64) -> i64,
     ) -> Option<Join> {
         let (separators, peaks) = (&self.separators, &self.peaks);
         let mut least = 0;
         let mut found = None;
-        for first in 0..=self.count - len {
+        for first in starts {
             let last = first + len - 1;
             let fall = cost(peaks[first]..=separators[last + 1], false, least);
             if fall < least {
@@ -343,5 +428,53 @@ impl Segments {
             }
         }
         found
+    }
+}
+
+#[cfg(test)]
+mod tests {
+    use super::*;
+
+    /// A closeness and a ring; its separators; and its modes, each by its start, its peak and its end, in places from
+    /// the opening on.
+    type Row = (i32, &'static [u32], &'static [usize], &'static [[usize; 3]]);
+
+    const RINGS: [Row; 12] = [
+        (0, &[0, 4, 0, 0, 4], &[2], &[[2, 6, 7]]),
+        (0, &[0, 4, 0, 0, 9], &[2], &[[2, 4, 7]]),
+        (3, &[8, 0, 8, 0, 8, 0, 0], &[5], &[[4, 10, 11]]),
+        (-1, &[0, 3, 0, 7, 0, 3], &[2], &[[2, 3, 8]]),
+        (-2, &[0, 3, 0, 3, 0, 0, 3, 3], &[4], &[[4, 6, 12]]),
+        (-1, &[4, 0, 4, 0, 4, 0, 0, 4, 0], &[5], &[[4, 12, 13]]),
+        (-1, &[7, 0, 3, 0, 4, 0, 0, 7], &[5], &[[4, 6, 12]]),
+        (-1, &[85, 85, 60, 85, 60, 60, 98, 60], &[4], &[[2, 4, 10]]),
+        (0, &[12, 0, 5, 0, 0, 5, 0, 12], &[3], &[[2, 6, 10]]),
+        (
+            -2,
+            &[2, 0, 2, 7, 0, 7, 0],
+            &[4, 6],
+            &[[3, 4, 5], [5, 9, 10]],
+        ),
+        (0, &[35, 5, 17, 4, 17, 5], &[5], &[[2, 3, 8]]),
+        (-1, &[6, 2, 2, 0, 2, 2, 6, 0, 7, 0], &[9], &[[6, 7, 16]]),
+    ];
+
+    #[test]
+    fn rings_are_joined_past_their_opening() {
+        for (closeness, ring, separators, modes) in RINGS {
+            let bins = ring.len();
+            let opening = (0..bins).min_by_key(|&bin| ring[bin]).unwrap();
+            let turns: Vec<u32> = (0..2 * bins).map(|p| ring[(opening + p) % bins]).collect();
+            let found = ring_segments(&turns, closeness);
+            let mode = |m| [found.separators[m], found.peaks[m], found.separators[m + 1]];
+            let found_modes: Vec<[usize; 3]> = (0..found.count).map(mode).collect();
+            assert_eq!(found_modes, modes, "{ring:?}");
+
+            let mut list = vec![0; bins];
+            let count = ring_modes(&turns, closeness, &mut list);
+            let starts = list[..count].iter();
+            let listed: Vec<usize> = starts.map(|&s| (opening + s as usize) % bins).collect();
+            assert_eq!(listed, separators, "{ring:?}");
+        }
     }
 }

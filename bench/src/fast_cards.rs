@@ -2,7 +2,7 @@
 //! then every pixel holds the number of its node, and one pass for each level moves all pixels on and counts the histograms
 //! of all nodes at once. The engine sorts instead, node by node, which takes less memory and needs no table of nodes.
 
-use crate::fast::line_modes;
+use crate::fast::{line_modes, ring_modes};
 use reference::calls::{CardAnswer, MOST_ENTRIES};
 use reference::cards::Entry;
 
@@ -232,23 +232,54 @@ fn hue(r: i32, g: i32, b: i32) -> u8 {
 fn line_table(counts: &[u32], closeness: i32, first: usize, table: &mut [u16]) -> usize {
     let mut list = [0; HUES + 1];
     let modes = line_modes(counts, closeness, &mut list) - 1;
-    for mode in 0..modes {
-        table[list[mode] as usize..].fill((first + mode) as u16);
-    }
+    number(&list[..modes], first, table);
     modes
 }
 
 /// The same for the ring of hues, from 1 on.
 fn ring_table(counts: &[u32], closeness: i32, table: &mut [u16]) -> usize {
     let opening = (0..HUES).min_by_key(|&bin| counts[bin]).unwrap_or(0);
-    let mut line = [0; HUES + 1];
-    for (place, count) in line.iter_mut().enumerate() {
+    let mut turns = [0; 2 * HUES];
+    for (place, count) in turns.iter_mut().enumerate() {
         *count = counts[(opening + place) % HUES];
     }
-    let mut opened = [0; HUES + 1];
-    let modes = line_table(&line, closeness, 1, &mut opened);
+    let mut list = [0; HUES];
+    let modes = ring_modes(&turns, closeness, &mut list);
+    // The last mode goes on past the opening, to the first separator.
+    let mut opened = [modes as u16; HUES];
+    number(&list[..modes], 1, &mut opened);
     for place in 0..HUES {
         table[(opening + place) % HUES] = opened[place];
     }
     modes
+}
+
+/// Each bin from the start of a mode on gets its number, until the next mode starts.
+fn number(starts: &[u32], first: usize, table: &mut [u16]) {
+    for (mode, &start) in starts.iter().enumerate() {
+        table[start as usize..].fill((first + mode) as u16);
+    }
+}
+
+#[cfg(test)]
+mod tests {
+    use super::*;
+
+    /// One hump goes past the opening, which is then no separator; the other one starts first. Turned on by a bin, so that
+    /// the opening is not bin 0 either.
+    #[test]
+    fn hues_before_the_first_separator_are_of_the_last_mode() {
+        for turned in [0, 1] {
+            let mut counts = [0; HUES];
+            for hue in [1, 30, 59] {
+                counts[(hue + turned) % HUES] = 4;
+            }
+            let mut table = [GREYS; HUES];
+            assert_eq!(ring_table(&counts, 0, &mut table), 2);
+            for hue in 0..HUES {
+                let mode = if (2..31).contains(&hue) { 1 } else { 2 };
+                assert_eq!(table[(hue + turned) % HUES], mode, "{hue}, {turned}");
+            }
+        }
+    }
 }

@@ -9,7 +9,7 @@ use native.Mathlib.Nat.{mod-lt}
 use lib.Dec.{ltb}
 use lib.ListN.{length, take, getD, length-map, List·getD-map}
 use lib.IntN.{pos}
-use lib.Signed.{ltZ}
+use lib.Signed.{ltZ, _≤ℤ_}
 use borrow.Author.Tests.{ltb-true}
 use Rattle.lists.specs.Lists.{total, part, ExactlyOne}
 use Rattle.lists.proofs.Cases.{by-order}
@@ -22,13 +22,13 @@ use Rattle.verdict.specs.Test.{Closeness}
 use Rattle.verdict.specs.Exactness.{VerdictSound}
 use Rattle.verdict.proofs.Sound.{verdict-sound}
 use Rattle.segmentation.specs.Segments.{Segment, segmentAt, binAt, isValley, firstSegments}
-use Rattle.segmentation.specs.Joining.{lineReader, Join, join, nextJoin, lineModes}
+use Rattle.segmentation.specs.Joining.{lineReader, lastIn, riseOf, fallOf, Join, join, riseCost, fallCost, joinOf, nextJoin, lineModes}
 use Rattle.segmentation.specs.Around.{twice, nextRound, joinRound, ringJoins}
 use Rattle.segmentation.specs.Ring.{opening, opened, ringBin, linePlace, fromOpening, twoTurns, roundReader, ringModes, ringSeparators, inRingMode}
 use Rattle.segmentation.specs.Finished.{Cut, SingleHump, RingCut, FinishedRound, RingAlwaysFinished, RingAlwaysListed}
-use Rattle.segmentation.specs.Runs.{OnRing}
-use Rattle.segmentation.proofs.Kept.{Run, chain-ends, chain-rises, join-starts, hump-at, at-hump}
-use Rattle.segmentation.proofs.Settled.{one-joins-none, join-all-keeps, joins-none, settled, none-joinable}
+use Rattle.segmentation.specs.Runs.{OnRing, NoneAmong}
+use Rattle.segmentation.proofs.Kept.{Run, between, chain-ends, chain-rises, join-starts, hump-at, at-hump}
+use Rattle.segmentation.proofs.Settled.{unjoinable, line-settled, one-joins-none, join-all-keeps, joins-none, settled, none-joinable}
 use Rattle.segmentation.proofs.FirstCut.{separatorAt, first-segment, first-neighbours}
 use Rattle.segmentation.proofs.Finishing.{part-length, kept, modes-cut, modes-humps}
 use Rattle.segmentation.proofs.RingPlaces.{opening-in, opening-lowest, opening-first, ring-length, ring-bins, place-in, place-bin, ring-bins-differ}
@@ -123,6 +123,26 @@ module _ (h : List ℕ) (two : 2 ≤ length h) where
           };
           low = line-low;
         }
+
+    -- a run of the line's modes costs the same read round the ring
+    line-run : (i n : ℕ) → 1 ≤ n → i + n ≤ length (lineModes e (opened h))
+        → joinOf e (lineReader (opened h)) (lineModes e (opened h)) i n ≡ joinOf e (roundReader h) (lineModes e (opened h)) i n
+    unfolding joinOf riseCost fallCost riseOf fallOf
+    line-run i n positive l =
+        let ss = lineModes e (opened h) in
+        let b = between ss (line-cut .chain) i n positive l in
+        let last = line-last (i + n - 1) (omega arith) in
+        rw (
+          opened-part h one (segmentAt ss i .start) (lastIn ss i n .peak) (b .riseFrom) (omega (arith, b .riseTo)),
+          opened-part h one (segmentAt ss i .peak) (lastIn ss i n .end) (b .fallTo) last,
+        ) refl
+
+    -- so none of them is joinable there
+    pub line-none : NoneAmong e (roundReader h) (lineModes e (opened h)) (length (lineModes e (opened h)))
+    line-none n a i k =
+        let ss = lineModes e (opened h) in
+        subst (λ (j : Join). pos 0 ≤ℤ j .cost) (line-run i n (omega arith) (omega arith))
+        (unjoinable e (lineReader (opened h)) ss false (length ss) i n (line-settled e (opened h)) a (omega arith) (omega arith))
 
     abbrev Humps : List Segment → Type 0
     Humps ss = (m : ℕ) → m < length ss → SingleHump e (roundReader h) ss m

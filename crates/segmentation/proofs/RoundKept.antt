@@ -1,23 +1,24 @@
--- What a join anywhere round a ring keeps: the cut of the ring into modes, and single humps; and it leaves fewer modes. Assumes nothing.
+-- What a join anywhere round a ring keeps: the cut of the ring into modes, single humps, and that no run without the last mode is joinable; and it leaves fewer modes. Assumes nothing.
 use Prim.Native.Nat.{ℕ, suc, _+_, _*_, _-_, _≤_, _<_}
 use mathlib.Core.Path.{_≡_, refl, sym, ap, subst, _∙_}
-use mathlib.Core.Bool.{true}
+use mathlib.Core.Bool.{true, false≢true}
 use mathlib.Core.List.{List, []}
-use mathlib.Core.Option.{some}
+use mathlib.Core.Option.{Option, none, some}
 use native.Mathlib.Omega.{arith}
 use lib.ListN.{length}
-use lib.IntN.{pos}
-use lib.Signed.{ltZ}
-use Rattle.lists.specs.Lists.{total}
+use lib.IntN.{ℤ, pos}
+use lib.Signed.{ltZ, _≤ℤ_}
+use Rattle.lists.specs.Lists.{total, maybe}
 use Rattle.lists.proofs.Cases.{by-order}
+use Rattle.lists.proofs.Signed.{lt-no}
 use Rattle.verdict.specs.Test.{Closeness}
 use Rattle.segmentation.specs.Segments.{Segment, segmentAt, binAt}
-use Rattle.segmentation.specs.Joining.{Reader, Join, riseOf, fallOf, joined, join, riseCost, fallCost, joinOf}
+use Rattle.segmentation.specs.Joining.{Reader, Join, riseOf, fallOf, joined, join, riseCost, fallCost, joinOf, joinAll}
 use Rattle.segmentation.specs.Around.{later, twice, turnFrom, nextRound, passed, startingAt, joinRound, ringJoins}
 use Rattle.segmentation.specs.Finished.{SingleHump, RingCut}
-use Rattle.segmentation.specs.Runs.{OnRing}
+use Rattle.segmentation.specs.Runs.{OnRing, NoneAmong}
 use Rattle.segmentation.proofs.Kept.{Run, chain-ends, join-length, join-before, join-here, join-after, join-first, join-last, join-chain, Hump, hump-at, at-hump, join-humps}
-use Rattle.segmentation.proofs.Settled.{Chosen, chosen, chosen-below, one-joins-none, Shortens}
+use Rattle.segmentation.proofs.Settled.{Chosen, chosen, chosen-below, run-elsewhere, one-joins-none, Shortens}
 use Rattle.segmentation.proofs.Turned.{twice-first, turn-length, turn-at, turn-chain, turn-first, turn-last, in-turn, ends-in-turn}
 
 -- j is a run of two or more of the modes ss, from any of them on
@@ -43,6 +44,14 @@ module _ (bins : ℕ) (ss : List Segment) (j : Join) (v : RoundRun ss j) where
   pub round-length : length (joinRound bins ss j) + j .len ≡ suc (length ss)
   unfolding joinRound
   round-length = omega (arith, join-length _ _ moved-run, long)
+
+  -- the modes before the run
+  pub before-run : (m : ℕ) → m < j .first - passed ss j → segmentAt (joinRound bins ss j) m ≡ segmentAt ss (passed ss j + m)
+  unfolding joinRound
+  before-run m l =
+      let here : passed ss j + m < length ss = omega (arith, v .starts, past-first) in
+      join-before (turnFrom (passed ss j) bins ss) (startingAt (j .first - passed ss j) j) moved-run m l
+      ∙ turn-at bins ss (passed ss j) m (omega arith) ∙ twice-first bins ss (passed ss j + m) here
 
 -- ---- the join that comes next
 module _ (e : Closeness) (read : Reader) (bins : ℕ) (ss : List Segment) (j : Join) (q : nextRound e read bins ss ≡ some j) where
@@ -94,7 +103,7 @@ module _ {bins : ℕ} {ss : List Segment} (c : RingCut bins ss) (j : Join) (v : 
       let e : past + f ≡ j .first = omega arith in
       let s = v .starts in
       by-order m f
-      (λ a. let q = join-before turn moved run m a ∙ same m (omega arith) in (past + m, omega arith, ap (λ (x : Segment). x .start) q, omega (arith, ap (λ (x : Segment). x .end) q)))
+      (λ a. let q = before-run bins ss j v m a in (past + m, omega arith, ap (λ (x : Segment). x .start) q, omega (arith, ap (λ (x : Segment). x .end) q)))
       (λ a. by-order f m
       (λ b.
       let n = m + j .len - 1 in
@@ -179,3 +188,50 @@ module _ (e : Closeness) (read : Reader) where
           (subst (λ (x : Join). ltZ (x .cost) (pos 0) ≡ true) (sym q) below)
           (subst (Run (turnFrom k bins ss)) (sym q) (moved-run bins ss j v))
           (λ m l. turn-humps k (omega arith) m (omega arith)))
+
+-- ---- each join has the last mode in it, if no run without it is joinable: then the modes before it are as they were, and no run of them is joinable
+module _ (e : Closeness) (read : Reader) (bins : ℕ) where
+  -- the runs that do not go past the last mode are the same in the modes twice over
+  pub none-twice : (ss : List Segment) (known : ℕ) → known ≤ length ss → NoneAmong e read ss known → NoneAmong e read (twice bins ss) known
+  none-twice ss known l above n two i k =
+      subst (λ (z : ℤ). pos 0 ≤ℤ z)
+      (sym (run-elsewhere e read (twice bins ss) ss i i n (twice-first bins ss i (omega arith)) (twice-first bins ss (i + n - 1) (omega arith))))
+      (above n two i k)
+
+  module _ (ss : List Segment) (known : ℕ) (few : known ≤ length ss) (most : length ss ≤ suc known) (above : NoneAmong e read ss known) where
+    last-in : (i n : ℕ) → 2 ≤ n → ltZ (joinOf e read (twice bins ss) i n .cost) (pos 0) ≡ true → length ss ≤ i + n
+    last-in i n two below =
+        by-order (i + n) (length ss)
+        (λ l. absurd (false≢true (sym (lt-no (joinOf e read (twice bins ss) i n .cost) (pos 0) (none-twice ss known few above n two i (omega arith))) ∙ below)))
+        (λ l. l)
+
+    none-moved : (i n : ℕ) → ltZ (joinOf e read (twice bins ss) i n .cost) (pos 0) ≡ true → RoundRun ss (joinOf e read (twice bins ss) i n)
+        → NoneAmong e read (joinRound bins ss (joinOf e read (twice bins ss) i n)) (length (joinRound bins ss (joinOf e read (twice bins ss) i n)) - 1)
+    unfolding joinOf
+    none-moved i n below v m two a l =
+        let j = joinOf e read (twice bins ss) i n in
+        let past = passed ss j in
+        let count = round-length bins ss j v in
+        let last = last-in i n (v .two) below in
+        let starts = v .starts in
+        let all = v .all in
+        let z : past + (a + m - 1) ≡ past + a + m - 1 = omega arith in
+        subst (λ (x : ℤ). pos 0 ≤ℤ x)
+        (sym (run-elsewhere e read (joinRound bins ss j) ss a (past + a) m (before-run bins ss j v a (omega arith)) (before-run bins ss j v (a + m - 1) (omega arith) ∙ ap (segmentAt ss) z)))
+        (above m two (past + a) (omega arith))
+
+    -- one step, which makes the next join: it is seen by the modes that it leaves
+    pub none-stepped : length (joinAll 1 (ringJoins e read bins) ss) < length ss
+        → NoneAmong e read (joinAll 1 (ringJoins e read bins) ss) (length (joinAll 1 (ringJoins e read bins) ss) - 1)
+    unfolding joinAll
+    none-stepped = go (nextRound e read bins ss) refl
+      where
+        Left : List Segment → Type 0
+        Left ts = length ts < length ss → NoneAmong e read ts (length ts - 1)
+
+        go : (o : Option Join) → nextRound e read bins ss ≡ o → Left (maybe ss (joinRound bins ss) o)
+        go none q = λ l. absurd (omega arith)
+        go (some j) q = λ l.
+            let r = round-of e read bins ss j q in
+            subst (λ (k : Join). ltZ (k .cost) (pos 0) ≡ true → RoundRun ss k → NoneAmong e read (joinRound bins ss k) (length (joinRound bins ss k) - 1)) (r .same)
+            (none-moved (r .first) (r .len)) (round-below e read bins ss j q) (round-run e read bins ss j q)

@@ -13,7 +13,7 @@ use Rattle.lists.specs.Lists.{part, firstThat, numbers}
 use Rattle.lists.proofs.Cases.{by-cond}
 use Rattle.lists.proofs.Signed.{nlt-le-ℤ, lt-no, lt-le-lt}
 use Rattle.lists.proofs.Sums.{total-part-le}
-use Rattle.lists.proofs.Leasts.{leastOf, foundAmong, found-lowest}
+use Rattle.lists.proofs.Leasts.{leastOf, foundAmong, none-found, found-lowest}
 use Rattle.pooling.specs.Blocks.{increasing, decreasing}
 use Rattle.verdict.specs.Test.{Closeness, cost}
 use Rattle.pooling.specs.Limits.{Small}
@@ -98,9 +98,11 @@ pub record Searched (j : ℕ → Join) (i : ℕ) (b : Found) : Type 0 where
   pub least : b .join .cost ≡ leastSoFar j i
   pub small : mag (b .join .cost) < 2 ^ 62
 
-pub searched-none : (j : ℕ → Join) (b : Found) → b .found ≡ false → b .join .cost ≡ pos 0 → Searched j 0 b
-unfolding foundAmong
-searched-none j b e z = record { same = rw e refl; least = z; small = rw z (omega arith) }
+-- where none of the first i is below 0, nothing is found among them
+pub searched-none : (j : ℕ → Join) (i : ℕ) (b : Found) → ((k : ℕ) → k < i → pos 0 ≤ℤ j k .cost) → b .found ≡ false → b .join .cost ≡ pos 0 → Searched j i b
+searched-none j i b above e z =
+    let q = none-found (λ (r : Join). r .cost) (pos 0) j i above in
+    record { same = rw (e, q) refl; least = rw q z; small = rw z (omega arith) }
 
 pub searched-more : (j : ℕ → Join) (i : ℕ) (b : Found) (r : Join) → Searched j i b → RunBelow (b .join .cost) (j i) r → Searched j (i + 1) (betterOf b r)
 unfolding foundAmong betterOf

@@ -14,8 +14,8 @@ use Rattle.lists.proofs.Signed.{le-trans-ℤ, lt-le-ℤ, nlt-le-ℤ}
 use Rattle.lists.proofs.Lowest.{lowest-in, lowest-le}
 use Rattle.lists.proofs.Found.{found-in, found-passes, none-passes}
 use Rattle.verdict.specs.Test.{Closeness}
-use Rattle.segmentation.specs.Segments.{Segment, firstSegments}
-use Rattle.segmentation.specs.Joining.{Reader, lineReader, Join, join, riseCost, fallCost, joinOf, lastStart, cheapest, nextAmong, nextJoin, Joins, joinAll, lineJoins, lineModes}
+use Rattle.segmentation.specs.Segments.{Segment, segmentAt, firstSegments}
+use Rattle.segmentation.specs.Joining.{Reader, lineReader, lastIn, Join, join, riseOf, fallOf, riseCost, fallCost, joinOf, lastStart, cheapest, nextAmong, nextJoin, Joins, joinAll, lineJoins, lineModes}
 use Rattle.segmentation.proofs.Kept.{Run, join-length}
 
 -- ---- the join that comes next: a run of two or more of the segments, with a cost below 0
@@ -62,7 +62,7 @@ module _ (e : Closeness) (read : Reader) (ss : List Segment) (round : Bool) (cou
         let f = fallCost e read ss i n in
         by-cond (λ c. c ≤ℤ f) (ltZ r f) r f (λ t. lt-le-ℤ r f t) (λ t. ≤ℤ-refl f)
 
-    unjoinable : nextAmong e read ss round count ≡ none → 2 ≤ n → n ≤ count → i ≤ lastStart round count n → pos 0 ≤ℤ joinOf e read ss i n .cost
+    pub unjoinable : nextAmong e read ss round count ≡ none → 2 ≤ n → n ≤ count → i ≤ lastStart round count n → pos 0 ≤ℤ joinOf e read ss i n .cost
     unfolding nextAmong cheapest
     unjoinable q a b l =
         let t = none-passes pick 2 (count - 1) _ q n a (omega arith) in
@@ -77,6 +77,12 @@ module _ (e : Closeness) (read : Reader) (ss : List Segment) (round : Bool) (cou
           le-trans-ℤ (pos 0) (joinOf e read ss i n .cost) (riseCost e read ss i n) c at-most-rise,
           le-trans-ℤ (pos 0) (joinOf e read ss i n .cost) (fallCost e read ss i n) c at-most-fall,
         )
+
+-- the cost of a run goes by its first segment and its last, wherever they stand
+pub run-elsewhere : (e : Closeness) (read : Reader) (ss ts : List Segment) (i k n : ℕ) → segmentAt ss i ≡ segmentAt ts k → lastIn ss i n ≡ lastIn ts k n
+    → joinOf e read ss i n .cost ≡ joinOf e read ts k n .cost
+unfolding joinOf riseCost fallCost riseOf fallOf
+run-elsewhere e read ss ts i k n first last = rw (first, last) refl
 
 -- a single segment has nothing to join
 pub one-joins-none : (e : Closeness) (read : Reader) (ss : List Segment) (round : Bool) (count : ℕ) → count ≤ 1 → nextAmong e read ss round count ≡ none
@@ -191,11 +197,14 @@ one-kept e h l =
     let ss = firstSegments h in
     joins-none (lineJoins e (lineReader h)) (length ss) ss (one-joins-none e (lineReader h) ss false (length ss) l)
 
+-- nothing comes next when a line is finished
+pub line-settled : (e : Closeness) (h : List ℕ) → nextAmong e (lineReader h) (lineModes e h) false (length (lineModes e h)) ≡ none
+unfolding lineModes nextJoin
+line-settled e h = settled (lineJoins e (lineReader h)) (line-shortens e (lineReader h)) (length (firstSegments h)) (firstSegments h) (omega arith)
+
 -- Finished.noneJoinable
 pub line-none-joinable : (e : Closeness) (h : List ℕ) (i n : ℕ) → 2 ≤ n → i + n ≤ length (lineModes e h)
     → (pos 0 ≤ℤ riseCost e (lineReader h) (lineModes e h) i n) × (pos 0 ≤ℤ fallCost e (lineReader h) (lineModes e h) i n)
-unfolding lineModes nextJoin
 line-none-joinable e h i n a b =
     let ss = lineModes e h in
-    none-joinable e (lineReader h) ss false (length ss) i n
-    (settled (lineJoins e (lineReader h)) (line-shortens e (lineReader h)) (length (firstSegments h)) (firstSegments h) (omega arith)) a (omega arith) (omega arith)
+    none-joinable e (lineReader h) ss false (length ss) i n (line-settled e h) a (omega arith) (omega arith)

@@ -9,11 +9,12 @@ use lib.IntN.{ℤ, pos}
 use lib.Signed.{ltZ, mag, _≤ℤ_}
 use Rattle.lists.specs.Lists.{total, part}
 use Rattle.logarithm.specs.Sheet.{logSheet}
+use Rattle.verdict.specs.Test.{Closeness}
 use Rattle.verdict.specs.Settings.{lastSetting}
 use Rattle.pooling.specs.Limits.{Small}
 use Rattle.segmentation.specs.declared.Found.{Found}
 use Rattle.segmentation.specs.Segments.{Segment, segmentAt, binAt}
-use Rattle.segmentation.specs.Joining.{Join, join, lastStart}
+use Rattle.segmentation.specs.Joining.{Reader, Join, join, joinOf, lastStart}
 use Rattle.segmentation.specs.Around.{startingAt}
 use Rattle.segmentation.specs.Finished.{RingCut}
 use Rattle.segmentation.specs.Held.{segmentsHeld}
@@ -45,6 +46,14 @@ heldCount round n = cond round (n + n) n
 -- of all runs of two or more of n segments
 abbrev pub AllInside : (h separators peaks : List ℕ) (round : Bool) (n : ℕ) → Type 0
 AllInside h separators peaks round n = (len : ℕ) → 2 ≤ len → len ≤ n → RunsInside h separators peaks (suc (lastStart round n len)) len
+
+-- of the runs of n segments that start at number 0, 1, .., from - 1 none is joinable
+abbrev pub NoneBefore : Closeness → Reader → List Segment → (from n : ℕ) → Type 0
+NoneBefore e read ss from n = (i : ℕ) → i < from → pos 0 ≤ℤ joinOf e read ss i n .cost
+
+-- no run of two or more of the first `known` segments is joinable
+abbrev pub NoneAmong : Closeness → Reader → List Segment → (known : ℕ) → Type 0
+NoneAmong e read ss known = (n : ℕ) → 2 ≤ n → NoneBefore e read ss (suc known - n) n
 
 -- what the joins round a ring of `bins` bins keep, whose bins from the opening on are `turn`: its modes go once round, and the bin of each separator holds at
 -- most half of the counts, so that a full turn, which has that bin twice, is no larger than an opened line

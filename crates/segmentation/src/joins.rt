@@ -1,5 +1,6 @@
 // Joining a run of segments in place, and joining until no run is joinable.
 use crate::Join;
+use crate::Search;
 use crate::first::first_segments;
 use crate::runs::next_join;
 use logarithm::SHEET_SIZE;
@@ -62,7 +63,12 @@ pub fn join_all(
 {
     let mut left = n;
     loop {
-        let next = next_join(sheet, h, setting, separators, peaks, left, false);
+        let all = Search {
+            count: left,
+            round: false,
+            known: 0,
+        };
+        let next = next_join(sheet, h, setting, separators, peaks, all);
         if !next.found {
             return left;
         }

@@ -24,6 +24,19 @@ pub struct Found {
     pub join: Join,
 }
 
+// What a search goes through: so many segments, of a line or round a ring. No run of the first `known` of them is joinable, so those runs are passed over.
+pub struct Search {
+    pub count: usize,
+    pub round: bool,
+    pub known: usize,
+}
+
+// The segments that a run may start with: from number `from` up to, but not including, `end`.
+pub struct Starts {
+    pub from: usize,
+    pub end: usize,
+}
+
 // A ring by its modes: the bin at which it is opened, and how many modes there are.
 pub struct Opened {
     pub opening: usize,

@@ -1,5 +1,6 @@
 // Joins all round a ring. Its modes are held by places from the opening on, and for a search twice over: a place a turn later is the same bin.
 use crate::Join;
+use crate::Search;
 use crate::joins::apply;
 use crate::joins::shift;
 use crate::runs::next_join;
@@ -12,7 +13,7 @@ ghost use Rattle.verdict.specs.Settings.{closenessOf};
 ghost use Rattle.segmentation.specs.Joining.{lineReader, joinAll};
 ghost use Rattle.segmentation.specs.Around.{ringJoins};
 ghost use Rattle.segmentation.specs.Held.{segmentsHeld};
-ghost use Rattle.segmentation.specs.Runs.{RingHeld, EachTo, Repeated, joinTwice};
+ghost use Rattle.segmentation.specs.Runs.{RingHeld, NoneAmong, EachTo, Repeated, joinTwice};
 
 // Writes the n members from place `from` on again behind them, `by` more each.
 fn repeat(a: &mut [u32], from: usize, n: usize, by: usize)
@@ -59,6 +60,7 @@ fn apply_round(separators: &mut [u32], peaks: &mut [u32], n: usize, j: Join) -> 
 }
 
 // Makes the next join anywhere round the ring, if there is one. Returns how many modes there are then: as many as before only if there is none.
+// No run of the first `known` modes is joinable.
 fn join_once(
     sheet: &[u32; SHEET_SIZE],
     round: &[u32],
@@ -66,22 +68,31 @@ fn join_once(
     separators: &mut [u32],
     peaks: &mut [u32],
     n: usize,
+    known: usize,
     bins: usize,
 ) -> usize
     requires { ⌜ RingHeld (now sheet) setting (now round) (now separators) (now peaks) n bins ⌝ }
+    requires { ⌜ NoneAmong (closenessOf setting) (lineReader (now round)) (segmentsHeld (now separators) (now peaks) 0 n) known × (known ≤ n) ⌝ }
     ensures { λ r. ⌜ segmentsHeld (now (separators .exit)) (now (peaks .exit)) 0 r
         ≡ joinAll 1 (ringJoins (closenessOf setting) (lineReader (now (round .entry))) bins) (segmentsHeld (now (separators .entry)) (now (peaks .entry)) 0 n) ⌝ }
 {
     repeat(separators, 1, n, bins);
     repeat(peaks, 0, n, bins);
-    let next = next_join(sheet, round, setting, separators, peaks, n, true);
+    let all = Search {
+        count: n,
+        round: true,
+        known: known,
+    };
+    let next = next_join(sheet, round, setting, separators, peaks, all);
     if !next.found {
         return n;
     }
     apply_round(separators, peaks, n, next.join)
 }
 
-// Joins the modes of a ring until no run is joinable anywhere round it. Returns how many there are then.
+// Joins the modes of a finished line until no run is joinable anywhere round its ring. Returns how many there are then.
+// None of the line's own runs is joinable, so the first run that is goes past the opening, and its mode becomes the last. All others are modes of the line still, and no run
+// of them alone is joinable. So each join has the last mode in it, and only runs that have it are looked at.
 pub fn join_round(
     sheet: &[u32; SHEET_SIZE],
     round: &[u32],
@@ -92,16 +103,28 @@ pub fn join_round(
     bins: usize,
 ) -> usize
     requires { ⌜ RingHeld (now sheet) setting (now round) (now separators) (now peaks) n bins ⌝ }
+    requires { ⌜ NoneAmong (closenessOf setting) (lineReader (now round)) (segmentsHeld (now separators) (now peaks) 0 n) n ⌝ }
     ensures { λ r. ⌜ (segmentsHeld (now (separators .exit)) (now (peaks .exit)) 0 r
         ≡ joinAll n (ringJoins (closenessOf setting) (lineReader (now (round .entry))) bins) (segmentsHeld (now (separators .entry)) (now (peaks .entry)) 0 n))
         × (r ≤ n) ⌝ }
 {
     let mut left = n;
+    let mut known = n;
     loop {
         let before = left;
-        left = join_once(sheet, round, setting, separators, peaks, before, bins);
+        left = join_once(
+            sheet,
+            round,
+            setting,
+            separators,
+            peaks,
+            before,
+            known,
+            bins,
+        );
         if left == before {
             return left;
         }
+        known = left - 1;
     }
 }

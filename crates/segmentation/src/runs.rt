@@ -1,6 +1,8 @@
 // The search for the next join, of a line or round a ring.
 use crate::Found;
 use crate::Join;
+use crate::Search;
+use crate::Starts;
 use logarithm::SHEET_SIZE;
 use verdict::capped_cost;
 ghost use mathlib.Core.Path.{_≡_};
@@ -17,7 +19,7 @@ ghost use Rattle.verdict.specs.Settings.{lastSetting, closenessOf};
 ghost use Rattle.verdict.specs.Scratch.{Capped};
 ghost use Rattle.segmentation.specs.Joining.{lineReader, joinOf, lastStart, cheapest, nextAmong};
 ghost use Rattle.segmentation.specs.Held.{segmentsHeld, joinFound};
-ghost use Rattle.segmentation.specs.Runs.{Prepared, Within, RunInside, RunsInside, heldCount, AllInside, RunBelow, joinBy, betterOf, whereBelow};
+ghost use Rattle.segmentation.specs.Runs.{Prepared, Within, RunInside, RunsInside, heldCount, AllInside, NoneBefore, NoneAmong, RunBelow, joinBy, betterOf, whereBelow};
 
 // The number of a bin, from a list that holds it.
 fn wide(x: u32) -> usize
@@ -117,7 +119,8 @@ fn better(best: Found, next: Join) -> Found
     best
 }
 
-// Of the runs of len segments that start at segment 0, 1 and so on, as many as `starts` says, the first one of the lowest cost, if that cost is below 0.
+// Of the runs of len segments that start at segment 0, 1 and so on before the end of `starts`, the first one of the lowest cost, if that cost is below 0.
+// Those before its first start are known to cost 0 or more.
 fn cheapest_below(
     sheet: &[u32; SHEET_SIZE],
     h: &[u32],
@@ -125,17 +128,18 @@ fn cheapest_below(
     separators: &[u32],
     peaks: &[u32],
     held: usize,
-    starts: usize,
+    starts: Starts,
     len: usize,
 ) -> Found
     requires { ⌜ Prepared (now sheet) setting (now separators) (now peaks) held ⌝ }
-    requires { ⌜ RunsInside (now h) (now separators) (now peaks) starts len ⌝ }
-    requires { ⌜ (1 ≤ len) × (1 ≤ starts) × (starts + len ≤ held + 1) ⌝ }
-    ensures { λ r. ⌜ joinFound (r .found) (r .join) ≡ whereBelow (cheapest (closenessOf setting) (lineReader (now (h .entry))) (segmentsHeld (now (separators .entry)) (now (peaks .entry)) 0 held) (starts - 1) len) ⌝ }
+    requires { ⌜ RunsInside (now h) (now separators) (now peaks) (starts .end) len ⌝ }
+    requires { ⌜ NoneBefore (closenessOf setting) (lineReader (now h)) (segmentsHeld (now separators) (now peaks) 0 held) (starts .from) len ⌝ }
+    requires { ⌜ (1 ≤ len) × (1 ≤ starts .end) × (starts .from ≤ starts .end) × (starts .end + len ≤ held + 1) ⌝ }
+    ensures { λ r. ⌜ joinFound (r .found) (r .join) ≡ whereBelow (cheapest (closenessOf setting) (lineReader (now (h .entry))) (segmentsHeld (now (separators .entry)) (now (peaks .entry)) 0 held) (starts .end - 1) len) ⌝ }
 {
     let mut best = nothing();
-    let mut i = 0;
-    while i < starts {
+    let mut i = starts.from;
+    while i < starts.end {
         let least = best.join.cost;
         best = better(
             best,
@@ -162,25 +166,39 @@ fn start_count(n: usize, len: usize, round: bool) -> usize
     if round { n } else { n - len + 1 }
 }
 
-// The next join among n segments, of a line or round a ring, if there is one.
+// The first segment from which a run of len is not one of the first `known` segments alone.
+fn first_start(len: usize, known: usize) -> usize
+    requires { ⌜ (1 ≤ len) × (known ≤ mostBins) ⌝ }
+    ensures { λ r. ⌜ r ≡ suc known - len ⌝ }
+{
+    if len <= known {
+        return known - len + 1;
+    }
+    0
+}
+
+// The next join that a search finds, of a line or round a ring, if there is one.
 pub fn next_join(
     sheet: &[u32; SHEET_SIZE],
     h: &[u32],
     setting: u32,
     separators: &[u32],
     peaks: &[u32],
-    n: usize,
-    round: bool,
+    among: Search,
 ) -> Found
-    requires { ⌜ Prepared (now sheet) setting (now separators) (now peaks) (heldCount round n) ⌝ }
-    requires { ⌜ AllInside (now h) (now separators) (now peaks) round n ⌝ }
-    requires { ⌜ (1 ≤ n) × (n ≤ mostBins) ⌝ }
-    ensures { λ r. ⌜ joinFound (r .found) (r .join) ≡ nextAmong (closenessOf setting) (lineReader (now (h .entry))) (segmentsHeld (now (separators .entry)) (now (peaks .entry)) 0 (heldCount round n)) round n ⌝ }
+    requires { ⌜ Prepared (now sheet) setting (now separators) (now peaks) (heldCount (among .round) (among .count)) ⌝ }
+    requires { ⌜ AllInside (now h) (now separators) (now peaks) (among .round) (among .count) ⌝ }
+    requires { ⌜ NoneAmong (closenessOf setting) (lineReader (now h)) (segmentsHeld (now separators) (now peaks) 0 (heldCount (among .round) (among .count))) (among .known) ⌝ }
+    requires { ⌜ (1 ≤ among .count) × (among .count ≤ mostBins) × (among .known ≤ among .count) ⌝ }
+    ensures { λ r. ⌜ joinFound (r .found) (r .join) ≡ nextAmong (closenessOf setting) (lineReader (now (h .entry))) (segmentsHeld (now (separators .entry)) (now (peaks .entry)) 0 (heldCount (among .round) (among .count))) (among .round) (among .count) ⌝ }
 {
-    let held = held_count(n, round);
+    let n = among.count;
+    let held = held_count(n, among.round);
     let mut len = 2;
     while len <= n {
-        let starts = start_count(n, len, round);
+        let from = first_start(len, among.known);
+        let end = start_count(n, len, among.round);
+        let starts = Starts { from, end };
         let best = cheapest_below(sheet, h, setting, separators, peaks, held, starts, len);
         if best.found {
             return best;

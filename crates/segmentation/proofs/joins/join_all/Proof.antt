@@ -81,7 +81,10 @@ next-join-requires c κs =
     let cut = v .inv .3 in
     let small = s .pre .0 in (
       record { logs = s .pre .1 .0 .1; close = s .pre .1 .0 .0; places = (omega arith, omega arith) },
-      (line-inside (s .args .h .now) (v .separators) (v .peaks) (v .left) small cut, (omega (arith, cut .nonEmpty, count a), omega (arith, cut-count cut, count a, small .bins))),
+      (
+        line-inside (s .args .h .now) (v .separators) (v .peaks) (v .left) small cut,
+        (λ n two i l. absurd (omega arith), (omega (arith, cut .nonEmpty, count a), omega (arith, cut-count cut, count a, small .bins), omega arith)),
+      ),
     )
 
 same-length : tie.Need-same-length Inv-loop μ-loop

@@ -11,10 +11,10 @@ use Rattle.verdict.specs.Settings.{closenessOf}
 use Rattle.segmentation.specs.Segments.{Segment, firstSegments}
 use Rattle.segmentation.specs.Joining.{lineReader, joinAll, lineModes}
 use Rattle.segmentation.specs.Around.{ringJoins}
-use Rattle.segmentation.specs.Ring.{opened, fromOpening, twoTurns}
+use Rattle.segmentation.specs.Ring.{opened, fromOpening, twoTurns, roundReader}
 use Rattle.segmentation.specs.Held.{segmentsHeld}
 use Rattle.segmentation.specs.Finished.{Cut}
-use Rattle.segmentation.specs.Runs.{OnRing}
+use Rattle.segmentation.specs.Runs.{OnRing, NoneAmong}
 use Rattle.segmentation.proofs.FirstCut.{first-cut}
 use Rattle.segmentation.proofs.Finishing.{modes-cut}
 use Rattle.segmentation.proofs.Holding.{held-length}
@@ -22,7 +22,7 @@ use Rattle.segmentation.proofs.Settled.{one-kept}
 use Rattle.segmentation.proofs.Applied.{line-held, ring-held, cut-count}
 use Rattle.segmentation.proofs.RingPlaces.{ring-length, ring-small}
 use Rattle.segmentation.proofs.TwoTurns.{opening-length, opening-total, opened-turns}
-use Rattle.segmentation.proofs.RingModes.{line-on-ring, ring-one-kept}
+use Rattle.segmentation.proofs.RingModes.{line-on-ring, line-none, ring-one-kept}
 use Rattle.segmentation.proofs.rings.ring.Statement.{statement}
 use Rattle.segmentation.proofs.rings.ring.Tie as tie
 
@@ -129,6 +129,19 @@ modes-few c =
       long s,
     )
 
+-- no run of them is joinable, read round
+none-left : (c : tie.After-join-all)
+    → NoneAmong (close (entry (first (sheet c)))) (lineReader (entry (first (sheet c)) .args .round .now))
+    (segmentsHeld (c .join-all .last .1 .1 .1 .0) (c .join-all .last .1 .1 .1 .1 .0) 0 (c .join-all .result)) (c .join-all .result)
+none-left c =
+    let s = entry (first (sheet c)) in
+    let j = c .join-all in
+    let e = close s in
+    let modes = segmentsHeld (j .last .1 .1 .1 .0) (j .last .1 .1 .1 .1 .0) 0 (j .result) in
+    subst (λ (round : List ℕ). NoneAmong e (lineReader round) modes (j .result)) (sym (s .pre .0 .3))
+    (subst (NoneAmong e (roundReader (bins s)) modes) (held-length (j .last .1 .1 .1 .0) (j .last .1 .1 .1 .1 .0) 0 (j .result))
+    (subst (λ (ss : List Segment). NoneAmong e (roundReader (bins s)) ss (length ss)) (sym (line-modes c)) (line-none (bins s) (s .pre .0 .0) e)))
+
 join-round-requires : tie.Need-join-round-requires
 unfolding twoTurns
 join-round-requires c κs =
@@ -138,19 +151,21 @@ join-round-requires c κs =
     let p = s .pre in
     let one : 1 ≤ length (bins s) = omega (arith, p .0) in
     let k = first sh .first-segments .kept in
-    let l = j .join-all .kept in
-    record {
-      turn = fromOpening (bins s);
-      turns = p .0 .3;
-      asLong = opening-length (bins s) one;
-      limits = (p .0 .1, omega (arith, opening-total (bins s), p .0));
-      prepared = record {
-        logs = sh .copied-sheet .ensures;
-        close = p .1 .0;
-        places = (omega (arith, modes-few j, p .0, p .1, k, l), omega (arith, modes-few j, p .0, p .1, k, l));
-      };
-      onRing = subst (OnRing (length (bins s)) (fromOpening (bins s))) (sym (line-modes j)) (line-on-ring (bins s) (p .0 .0) (close s));
-    }
+    let l = j .join-all .kept in (
+      record {
+        turn = fromOpening (bins s);
+        turns = p .0 .3;
+        asLong = opening-length (bins s) one;
+        limits = (p .0 .1, omega (arith, opening-total (bins s), p .0));
+        prepared = record {
+          logs = sh .copied-sheet .ensures;
+          close = p .1 .0;
+          places = (omega (arith, modes-few j, p .0, p .1, k, l), omega (arith, modes-few j, p .0, p .1, k, l));
+        };
+        onRing = subst (OnRing (length (bins s)) (fromOpening (bins s))) (sym (line-modes j)) (line-on-ring (bins s) (p .0 .0) (close s));
+      },
+      none-left j,
+    )
 
 same-length-3 : tie.Need-same-length-3
 same-length-3 c = search needs

@@ -12,12 +12,12 @@ use Rattle.segmentation.specs.Segments.{Segment}
 use Rattle.segmentation.specs.Joining.{lineReader, nextAmong, Joins, joinAll}
 use Rattle.segmentation.specs.Around.{twice, nextRound, ringJoins}
 use Rattle.segmentation.specs.Held.{segmentsHeld, joinFound}
-use Rattle.segmentation.specs.Runs.{AllInside, OnRing}
+use Rattle.segmentation.specs.Runs.{AllInside, NoneAmong, OnRing}
 use Rattle.segmentation.proofs.Holding.{held-length}
 use Rattle.segmentation.proofs.Settled.{joins-none, joins-more}
 use Rattle.segmentation.proofs.Applied.{found-some, found-none}
 use Rattle.segmentation.proofs.RunsInside.{ring-inside}
-use Rattle.segmentation.proofs.RoundKept.{RoundRun, round-run}
+use Rattle.segmentation.proofs.RoundKept.{RoundRun, round-run, none-twice}
 use Rattle.segmentation.proofs.HeldTwice.{held-twice, held-kept, joined-round, turn-end, separators-most, peaks-most, ring-count}
 use Rattle.segmentation.proofs.rounds.join_once.Statement.{statement}
 use Rattle.segmentation.proofs.rounds.join_once.Tie as tie
@@ -40,7 +40,7 @@ abbrev joins : tie.Start → Joins
 joins s = ringJoins (closenessOf (s .args .setting)) (lineReader (s .args .round .now)) (s .args .bins)
 
 few : (s : tie.Start) → s .args .n ≤ s .args .bins
-few s = ring-count (s .args .separators .now) (s .args .peaks .now) (s .args .n) (s .args .bins) (s .pre .onRing .cut)
+few s = ring-count (s .args .separators .now) (s .args .peaks .now) (s .args .n) (s .args .bins) (s .pre .0 .onRing .cut)
 
 count : (s : tie.Start) → length (modes s) ≡ s .args .n
 count s = held-length (s .args .separators .now) (s .args .peaks .now) 0 (s .args .n)
@@ -49,41 +49,52 @@ held : (c : tie.After-repeat2) → segmentsHeld (once c .repeat .last .0) (c .re
 held c =
     let s = entry (once c) in
     let a = s .args in
-    held-twice (a .separators .now) (a .peaks .now) _ _ (a .n) (a .bins) (once c .repeat .ensures) (c .repeat2 .ensures) (turn-end (a .separators .now) (a .peaks .now) (a .n) (a .bins) (s .pre .onRing .cut))
+    held-twice (a .separators .now) (a .peaks .now) _ _ (a .n) (a .bins) (once c .repeat .ensures) (c .repeat2 .ensures) (turn-end (a .separators .now) (a .peaks .now) (a .n) (a .bins) (s .pre .0 .onRing .cut))
 
 repeat-requires : tie.Need-repeat-requires
 repeat-requires c κs =
     let s = c .before .before .before .before in
     let a = s .args in
-    let most = s .pre .limits .0 in
-    (omega (arith, s .pre .prepared .places), omega arith, λ k l. omega (arith, separators-most (a .separators .now) (a .peaks .now) (a .n) (a .bins) (s .pre .onRing .cut) k l))
+    let most = s .pre .0 .limits .0 in
+    (omega (arith, s .pre .0 .prepared .places), omega arith, λ k l. omega (arith, separators-most (a .separators .now) (a .peaks .now) (a .n) (a .bins) (s .pre .0 .onRing .cut) k l))
 
 repeat-requires-2 : tie.Need-repeat-requires-2
 repeat-requires-2 c κs =
     let s = entry (c .before .before .before) in
     let a = s .args in
-    let most = s .pre .limits .0 in
-    (omega (arith, s .pre .prepared .places), omega arith, λ k l. omega (arith, peaks-most (a .separators .now) (a .peaks .now) (a .n) (a .bins) (s .pre .onRing .cut) k l))
+    let most = s .pre .0 .limits .0 in
+    (omega (arith, s .pre .0 .prepared .places), omega arith, λ k l. omega (arith, peaks-most (a .separators .now) (a .peaks .now) (a .n) (a .bins) (s .pre .0 .onRing .cut) k l))
 
 -- every run round the ring lies in the two turns
 inside : (c : tie.After-repeat2) → AllInside (entry (once c) .args .round .now) (once c .repeat .last .0) (c .repeat2 .last .0) true (entry (once c) .args .n)
 inside c =
     let s = entry (once c) in
-    let p = s .pre in
+    let p = s .pre .0 in
     let few-bins : length (p .turn) ≤ 256 = omega (arith, p .asLong, p .limits) in
     let on = subst (λ (b : ℕ). OnRing b (p .turn) (modes s)) (sym (p .asLong)) (p .onRing) in
     let as-held = held c ∙ ap (λ (b : ℕ). twice b (modes s)) (sym (p .asLong)) in
     subst (λ (xs : List ℕ). AllInside xs (once c .repeat .last .0) (c .repeat2 .last .0) true (s .args .n)) (sym (p .turns))
     (ring-inside (p .turn) few-bins (p .limits .1) (modes s) on _ _ (s .args .n) (sym (count s)) as-held)
 
+-- and those of the first modes are as they were
+none-left : (c : tie.After-repeat2)
+    → NoneAmong (closenessOf (entry (once c) .args .setting)) (lineReader (entry (once c) .args .round .now))
+    (segmentsHeld (once c .repeat .last .0) (c .repeat2 .last .0) 0 (entry (once c) .args .n + entry (once c) .args .n)) (entry (once c) .args .known)
+none-left c =
+    let s = entry (once c) in
+    let a = s .args in
+    let e = closenessOf (a .setting) in
+    let read = lineReader (a .round .now) in
+    subst (λ (ss : List Segment). NoneAmong e read ss (a .known)) (sym (held c)) (none-twice e read (a .bins) (modes s) (a .known) (omega (arith, count s, s .pre .1 .1)) (s .pre .1 .0))
+
 next-join-requires : tie.Need-next-join-requires
 next-join-requires c κs =
     let r = c .before .before .before .before in
     let s = entry (once r) in
-    let p = s .pre .prepared in
-    let most = s .pre .limits .0 in (
+    let p = s .pre .0 .prepared in
+    let most = s .pre .0 .limits .0 in (
       record { logs = p .logs; close = p .close; places = (omega (arith, p .places, once r .repeat .kept), omega (arith, p .places, r .repeat2 .kept)) },
-      (inside r, (omega (arith, s .pre .onRing .cut .nonEmpty, count s), omega (arith, few s))),
+      (inside r, (none-left r, (omega (arith, s .pre .0 .onRing .cut .nonEmpty, count s), omega (arith, few s), s .pre .1 .1))),
     )
 
 -- what the search finds comes next round the ring
@@ -129,8 +140,8 @@ apply-round-requires c κs =
     let s = entry (once r) in
     let v = valid here in
     let n = count s in
-    let p = s .pre .prepared .places in
-    let most = s .pre .limits .0 in
+    let p = s .pre .0 .prepared .places in
+    let most = s .pre .0 .limits .0 in
     (v .two, rw n at (v .all), rw n at (v .starts), omega (arith, few s), omega (arith, once r .repeat .kept), omega (arith, r .repeat2 .kept))
 
 same-length-3 : tie.Need-same-length-3

@@ -1,7 +1,7 @@
 -- `join_round` is the joining of the definitions, round the ring and in place. The loop's invariant: joining what is left gives the same as joining all. Assumes nothing.
 use mathlib.Core.Path.{_≡_, refl, sym, ap, subst, _∙_}
 use mathlib.Core.List.{List}
-use Prim.Native.Nat.{ℕ, _+_, _≤_}
+use Prim.Native.Nat.{ℕ, suc, _+_, _-_, _≤_, _<_}
 use borrow.Author.Needs.{needs}
 use native.Mathlib.Omega.{arith}
 use lib.ListN.{length}
@@ -9,25 +9,26 @@ use Rattle.segmentation.specs.Segments.{Segment}
 use Rattle.segmentation.specs.Joining.{lineReader, Joins, joinAll}
 use Rattle.segmentation.specs.Around.{ringJoins}
 use Rattle.segmentation.specs.Held.{segmentsHeld}
-use Rattle.segmentation.specs.Runs.{OnRing, RingHeld}
+use Rattle.segmentation.specs.Runs.{OnRing, RingHeld, NoneAmong}
 use Rattle.verdict.specs.Settings.{closenessOf}
 use Rattle.segmentation.proofs.Holding.{held-length}
 use Rattle.segmentation.proofs.Settled.{Stepped, stepped, join-all-keeps}
-use Rattle.segmentation.proofs.RoundKept.{ring-shortens, on-ring-kept}
+use Rattle.segmentation.proofs.RoundKept.{ring-shortens, on-ring-kept, none-stepped}
 use Rattle.segmentation.proofs.rounds.join_round.Statement.{statement}
 use Rattle.segmentation.proofs.rounds.join_round.Tie as tie
 
 abbrev Inv-loop : tie.InvT-loop
-Inv-loop sheet round setting separators₀ peaks₀ n bins left₀ separators peaks left =
+Inv-loop sheet round setting separators₀ peaks₀ n bins left₀ known₀ separators peaks left known =
     let w = ringJoins (closenessOf setting) (lineReader round) bins in
     (left ≤ n)
     × (length separators ≡ length separators₀)
     × (length peaks ≡ length peaks₀)
     × RingHeld sheet setting round separators peaks left bins
+    × (NoneAmong (closenessOf setting) (lineReader round) (segmentsHeld separators peaks 0 left) known × (known ≤ left) × (left ≤ suc known))
     × (joinAll left w (segmentsHeld separators peaks 0 left) ≡ joinAll n w (segmentsHeld separators₀ peaks₀ 0 n))
 
 abbrev μ-loop : tie.MeasureT-loop
-μ-loop sheet round setting separators₀ peaks₀ n bins left₀ separators peaks left = left
+μ-loop sheet round setting separators₀ peaks₀ n bins left₀ known₀ separators peaks left known = left
 
 -- ---- the ways to the function's entry and to the head of the loop
 abbrev entry : tie.At-loop Inv-loop μ-loop → tie.Start Inv-loop μ-loop
@@ -65,10 +66,10 @@ same c =
     ap (λ (k : ℕ). joinAll k (joins (head c)) (held c)) (sym (after c)) ∙ step c .same ∙ ap (λ (k : ℕ). joinAll k (joins (head c)) (modes (head c))) (before c)
 
 loop-holds : tie.Need-loop-holds Inv-loop μ-loop
-loop-holds c = (omega arith, refl, refl, c .before .before .before .pre, refl)
+loop-holds c = let p = c .before .before .before .pre in (omega arith, refl, refl, p .0, (p .1, omega arith, omega arith), refl)
 
 join-once-requires : tie.Need-join-once-requires Inv-loop μ-loop
-join-once-requires c κs = c .before .before .loop .inv .3
+join-once-requires c κs = let v = c .before .before .loop .inv in (v .3, (v .4 .0, v .4 .1))
 
 same-length : tie.Need-same-length Inv-loop μ-loop
 same-length c = search needs
@@ -81,9 +82,37 @@ returns c =
     let s = c .before .before .before .before .before in
     let h = head s in
     let still : s .join-once .result ≡ h .loop .left = omega arith in (
-      sym (step s .done (after s ∙ still ∙ sym (before s))) ∙ ap (λ (k : ℕ). joinAll k (joins h) (held s)) (after s) ∙ same s ∙ h .loop .inv .4,
+      sym (step s .done (after s ∙ still ∙ sym (before s))) ∙ ap (λ (k : ℕ). joinAll k (joins h) (held s)) (after s) ∙ same s ∙ h .loop .inv .5,
       omega arith,
     )
+
+-- the modes after the step lie on the ring
+on-ring : (c : tie.After-join-once Inv-loop μ-loop) → OnRing (entry (head c) .args .bins) (head c .loop .inv .3 .turn) (held c)
+on-ring c =
+    let h = head c in
+    let a = entry h .args in
+    let ring = h .loop .inv .3 in
+    subst (OnRing (a .bins) (ring .turn)) (sym (c .join-once .ensures))
+    (join-all-keeps (joins h) (OnRing (a .bins) (ring .turn)) (on-ring-kept (closenessOf (a .setting)) (lineReader (a .round .now)) (a .bins) (ring .turn)) 1 (modes h) (ring .onRing))
+
+-- if it made a join, no run of them without the last one is joinable
+none-left : (c : tie.After-join-once Inv-loop μ-loop) → c .join-once .result < head c .loop .left
+    → NoneAmong (closenessOf (entry (head c) .args .setting)) (lineReader (entry (head c) .args .round .now)) (held c) (c .join-once .result - 1)
+none-left c less =
+    let h = head c in
+    let a = entry h .args in
+    let e = closenessOf (a .setting) in
+    let read = lineReader (a .round .now) in
+    let none = h .loop .inv .4 in
+    let done = c .join-once .ensures in
+    subst (λ (k : ℕ). NoneAmong e read (held c) (k - 1)) (after c)
+    (subst (λ (ss : List Segment). NoneAmong e read ss (length ss - 1)) (sym done)
+    (none-stepped e read (a .bins) (modes h) (h .loop .known) (omega (arith, before c, none .1)) (omega (arith, before c, none .2)) (none .0) (omega (arith, before c, after c, ap length done))))
+
+sub-known : tie.Need-sub-known Inv-loop μ-loop
+sub-known c =
+    let s = c .before .before .before .before .before in
+    omega (arith, on-ring s .cut .nonEmpty, after s)
 
 loop-less : tie.Need-loop-less Inv-loop μ-loop
 loop-less c =
@@ -94,12 +123,11 @@ loop-again : tie.Need-loop-again Inv-loop μ-loop
 loop-again c =
     let s = c .before .before .before .before .before in
     let h = head s in
-    let a = entry h .args in
     let v = h .loop in
     let ring = v .inv .3 in
     let f = s .join-once in
     let less : f .result ≤ v .left = omega (arith, step s .fewer, before s, after s) in
-    let on = join-all-keeps (joins h) (OnRing (a .bins) (ring .turn)) (on-ring-kept (closenessOf (a .setting)) (lineReader (a .round .now)) (a .bins) (ring .turn)) 1 (modes h) (ring .onRing) in (
+    let some : 1 ≤ f .result = omega (arith, on-ring s .cut .nonEmpty, after s) in (
       omega arith,
       f .kept .1 .1 .1 .0 ∙ v .inv .1,
       f .kept .1 .1 .1 .1 .0 ∙ v .inv .2,
@@ -113,9 +141,10 @@ loop-again c =
           close = ring .prepared .close;
           places = (omega (arith, ring .prepared .places, f .kept .1 .1 .1 .0), omega (arith, ring .prepared .places, f .kept .1 .1 .1 .1 .0));
         };
-        onRing = subst (OnRing (a .bins) (ring .turn)) (sym (f .ensures)) on;
+        onRing = on-ring s;
       },
-      same s ∙ v .inv .4,
+      (none-left s (omega arith), omega arith, omega arith),
+      same s ∙ v .inv .5,
     )
 
 pub join-round-spec : {M : Type 1} → statement M
@@ -129,5 +158,6 @@ join-round-spec =
     same-length
     same-length-2
     returns
+    sub-known
     loop-less
     loop-again)

@@ -20,25 +20,34 @@ abbrev runs : (h : List ℕ) (e : Closeness) (separators peaks : List ℕ) (held
 runs h e separators peaks held len k = joinOf e (lineReader h) (segmentsHeld separators peaks 0 held) k len
 
 abbrev Inv-loop : tie.InvT-loop
-Inv-loop sheet h setting separators peaks held starts len best₀ i₀ best i = (i ≤ starts) × Searched (runs h (closenessOf setting) separators peaks held len) i best
+Inv-loop sheet h setting separators peaks held starts len best₀ i₀ best i = (i ≤ starts .end) × Searched (runs h (closenessOf setting) separators peaks held len) i best
 
 abbrev μ-loop : tie.MeasureT-loop
-μ-loop sheet h setting separators peaks held starts len best₀ i₀ best i = starts - i
+μ-loop sheet h setting separators peaks held starts len best₀ i₀ best i = starts .end - i
+
+-- ---- the ways to the function's entry, and to the head of the loop
+abbrev entry : tie.At-loop Inv-loop μ-loop → tie.Start Inv-loop μ-loop
+entry c = c .before .before .before .before .before
+
+abbrev head : tie.After-struct-told Inv-loop μ-loop → tie.At-loop Inv-loop μ-loop
+head c = c .before .before .before
 
 nothing-requires : tie.Need-nothing-requires Inv-loop μ-loop
 nothing-requires c κs = search needs
 
 loop-holds : tie.Need-loop-holds Inv-loop μ-loop
-loop-holds c = (search needs, searched-none _ _ (c .nothing .ensures .0) (c .nothing .ensures .1))
+loop-holds c =
+    let p = c .before .before .before .before .pre in
+    (p .1 .1 .1 .2, searched-none _ _ _ (p .1 .1 .0) (c .nothing .ensures .0) (c .nothing .ensures .1))
 
 least-is : (c : tie.At-loop Inv-loop μ-loop) → toZ w64 (ofZ w64 (c .loop .best .join .cost)) ≡ c .loop .best .join .cost
 least-is c = handed-back (omega (arith, c .loop .inv .1 .small))
 
 run-requires : tie.Need-run-requires Inv-loop μ-loop
 run-requires c κs =
-    let a = c .before .before in
-    let s = a .before .before .before .before .before in
-    rw (least-is a) (s .pre .0, (s .pre .1 .0 (a .loop .i) (search needs), (s .pre .1 .1 .0, search needs, a .loop .inv .1 .small)))
+    let a = head c in
+    let s = entry a in
+    rw (least-is a) (s .pre .0, (s .pre .1 .0 (a .loop .i) (search needs), (s .pre .1 .1 .1 .0, search needs, a .loop .inv .1 .small)))
 
 better-requires : tie.Need-better-requires Inv-loop μ-loop
 better-requires c κs = search needs
@@ -51,18 +60,18 @@ loop-less c = search needs
 
 loop-again : tie.Need-loop-again Inv-loop μ-loop
 loop-again c =
-    let a = c .before .before .before .before in (
+    let a = head (c .before .before) in (
       omega arith,
       rw (c .better .ensures) (searched-more _ (a .loop .i) (a .loop .best) (c .before .run .result) (a .loop .inv .1) (rw (least-is a) at (c .before .run .ensures))),
     )
 
 returns : tie.Need-returns Inv-loop μ-loop
 returns c =
-    let a = c .before in
-    let s = a .before .before .before .before .before in
-    let q : a .loop .i ≡ suc (s .args .starts - 1) = omega (arith, s .pre .1 .1) in
+    let a = c .before .before in
+    let s = entry a in
+    let q : a .loop .i ≡ suc (s .args .starts .end - 1) = omega (arith, s .pre .1 .1 .1) in
     a .loop .inv .1 .same ∙ ap (soFar (runs (s .args .h .now) (closenessOf (s .args .setting)) (s .args .separators .now) (s .args .peaks .now) (s .args .held) (s .args .len))) q
-    ∙ searched-to (closenessOf (s .args .setting)) (lineReader (s .args .h .now)) (segmentsHeld (s .args .separators .now) (s .args .peaks .now) 0 (s .args .held)) (s .args .starts - 1) (s .args .len)
+    ∙ searched-to (closenessOf (s .args .setting)) (lineReader (s .args .h .now)) (segmentsHeld (s .args .separators .now) (s .args .peaks .now) 0 (s .args .held)) (s .args .starts .end - 1) (s .args .len)
 
 pub cheapest-below-spec : {M : Type 1} → statement M
 cheapest-below-spec =

@@ -24,13 +24,19 @@ run-held : (round : Bool) (n len : ℕ) → 2 ≤ len → len ≤ n → suc (las
 run-held true n len a b = omega arith
 run-held false n len a b = omega arith
 
+-- those known not to be joinable start among them
+known-held : (round : Bool) (n known len : ℕ) → known ≤ n → 2 ≤ len → len ≤ n → suc known - len ≤ suc (lastStart round n len)
+known-held true n known len a two b = omega arith
+known-held false n known len a two b = omega arith
+
 abbrev Inv-loop : tie.InvT-loop
-Inv-loop sheet h setting separators peaks n round held len₀ len =
+Inv-loop sheet h setting separators peaks among n held len₀ len =
     (2 ≤ len) × (len ≤ n + 2)
-    × (nextAmong (closenessOf setting) (lineReader h) (segmentsHeld separators peaks 0 (heldCount round n)) round n ≡ fromLength (pick h (closenessOf setting) separators peaks n round) n len)
+    × (nextAmong (closenessOf setting) (lineReader h) (segmentsHeld separators peaks 0 (heldCount (among .round) n)) (among .round) n
+    ≡ fromLength (pick h (closenessOf setting) separators peaks n (among .round)) n len)
 
 abbrev μ-loop : tie.MeasureT-loop
-μ-loop sheet h setting separators peaks n round held len₀ len = n + 2 - len
+μ-loop sheet h setting separators peaks among n held len₀ len = n + 2 - len
 
 -- ---- the ways to the function's entry, and to the head of the loop
 abbrev entry : tie.After-held-count Inv-loop μ-loop → tie.Start Inv-loop μ-loop
@@ -40,14 +46,14 @@ abbrev counted : tie.At-loop Inv-loop μ-loop → tie.After-held-count Inv-loop 
 counted c = c .before
 
 abbrev tried : tie.After-cheapest-below Inv-loop μ-loop → tie.At-loop Inv-loop μ-loop
-tried c = c .before .before .before
+tried c = c .before .before .before .before
 
 -- the cheapest runs of the segments held, and the segments
 abbrev picks : tie.After-held-count Inv-loop μ-loop → ℕ → Join
-picks c = let a = entry c .args in pick (a .h .now) (closenessOf (a .setting)) (a .separators .now) (a .peaks .now) (a .n) (a .round)
+picks c = let a = entry c .args in pick (a .h .now) (closenessOf (a .setting)) (a .separators .now) (a .peaks .now) (a .among .count) (a .among .round)
 
 abbrev segments : tie.After-held-count Inv-loop μ-loop → List Segment
-segments c = let a = entry c .args in segmentsHeld (a .separators .now) (a .peaks .now) 0 (heldCount (a .round) (a .n))
+segments c = let a = entry c .args in segmentsHeld (a .separators .now) (a .peaks .now) 0 (heldCount (a .among .round) (a .among .count))
 
 held-count-requires : tie.Need-held-count-requires Inv-loop μ-loop
 held-count-requires c κs = search needs
@@ -55,20 +61,32 @@ held-count-requires c κs = search needs
 loop-holds : tie.Need-loop-holds Inv-loop μ-loop
 loop-holds c =
     let a = entry c .args in
-    (omega arith, omega arith, from-two (closenessOf (a .setting)) (lineReader (a .h .now)) (segments c) (a .round) (a .n))
+    (omega arith, omega arith, from-two (closenessOf (a .setting)) (lineReader (a .h .now)) (segments c) (a .among .round) (a .among .count))
+
+first-start-requires : tie.Need-first-start-requires Inv-loop μ-loop
+first-start-requires c κs = search needs
 
 start-count-requires : tie.Need-start-count-requires Inv-loop μ-loop
 start-count-requires c κs = search needs
 
 cheapest-below-requires : tie.Need-cheapest-below-requires Inv-loop μ-loop
 cheapest-below-requires c κs =
-    let l = c .before .before .loop in
-    let h = counted (c .before .before) in
+    let l = c .before .before .before .loop in
+    let h = counted (c .before .before .before) in
     let s = entry h in
+    let a = s .args .among in
     let len = l .len in
-    let some : len ≤ s .args .n = omega arith in
-    rw (h .held-count .ensures, c .start-count .ensures)
-    (s .pre .0, (s .pre .1 .0 len (l .inv .0) some, (omega (arith, l .inv .0), omega arith, run-held (s .args .round) (s .args .n) len (l .inv .0) some)))
+    let some : len ≤ a .count = omega arith in
+    rw (h .held-count .ensures, c .start-count .ensures, c .before .first-start .ensures) (
+      s .pre .0,
+      (
+        s .pre .1 .0 len (l .inv .0) some,
+        (
+          s .pre .1 .1 .0 len (l .inv .0),
+          (omega (arith, l .inv .0), omega arith, known-held (a .round) (a .count) (a .known) len (s .pre .1 .1 .1 .2) (l .inv .0) some, run-held (a .round) (a .count) len (l .inv .0) some),
+        ),
+      ),
+    )
 
 -- what is found is that of the length tried
 found : (c : tie.After-cheapest-below Inv-loop μ-loop) → joinFound (c .cheapest-below .result .found) (c .cheapest-below .result .join) ≡ whereBelow (picks (counted (tried c)) (tried c .loop .len))
@@ -76,7 +94,7 @@ found c =
     let h = counted (tried c) in
     let a = entry h .args in
     let len = tried c .loop .len in
-    let last : c .before .start-count .result - 1 ≡ lastStart (a .round) (a .n) len = ap (λ (k : ℕ). k - 1) (c .before .start-count .ensures) ∙ omega arith in
+    let last : c .before .start-count .result - 1 ≡ lastStart (a .among .round) (a .among .count) len = ap (λ (k : ℕ). k - 1) (c .before .start-count .ensures) ∙ omega arith in
     c .cheapest-below .ensures
     ∙ ap₂ (λ (held starts : ℕ). whereBelow (cheapest (closenessOf (a .setting)) (lineReader (a .h .now)) (segmentsHeld (a .separators .now) (a .peaks .now) 0 held) starts len))
     (h .held-count .ensures) last
@@ -85,7 +103,7 @@ returns : tie.Need-returns Inv-loop μ-loop
 returns c =
     let b = c .before in
     let a = tried b in
-    length-found (picks (counted a)) (entry (counted a) .args .n) (a .loop .len) (b .cheapest-below .result) (omega arith) (found b) (c .if1 .taken) ∙ sym (a .loop .inv .2)
+    length-found (picks (counted a)) (entry (counted a) .args .among .count) (a .loop .len) (b .cheapest-below .result) (omega arith) (found b) (c .if1 .taken) ∙ sym (a .loop .inv .2)
 
 add-len : tie.Need-add-len Inv-loop μ-loop
 add-len c = search needs
@@ -99,7 +117,7 @@ loop-again c =
     let a = tried b in (
       omega arith,
       omega arith,
-      a .loop .inv .2 ∙ length-passed (picks (counted a)) (entry (counted a) .args .n) (a .loop .len) (b .cheapest-below .result) (omega arith) (found b) (c .if1 .left),
+      a .loop .inv .2 ∙ length-passed (picks (counted a)) (entry (counted a) .args .among .count) (a .loop .len) (b .cheapest-below .result) (omega arith) (found b) (c .if1 .left),
     )
 
 nothing-requires : tie.Need-nothing-requires Inv-loop μ-loop
@@ -108,7 +126,7 @@ nothing-requires c κs = search needs
 returns-2 : tie.Need-returns-2 Inv-loop μ-loop
 returns-2 c =
     let a = c .before .before in
-    rw (c .nothing .ensures .0) (sym (a .loop .inv .2 ∙ no-length (picks (counted a)) (entry (counted a) .args .n) (a .loop .len) (omega arith)))
+    rw (c .nothing .ensures .0) (sym (a .loop .inv .2 ∙ no-length (picks (counted a)) (entry (counted a) .args .among .count) (a .loop .len) (omega arith)))
 
 pub next-join-spec : {M : Type 1} → statement M
 next-join-spec =
@@ -118,6 +136,7 @@ next-join-spec =
     μ-loop
     held-count-requires
     loop-holds
+    first-start-requires
     start-count-requires
     cheapest-below-requires
     returns
