@@ -100,7 +100,7 @@ pub fn line_modes(histogram: &[u32], closeness: i32, list: &mut [u32]) -> ModesA
     modes(histogram, closeness, list, lines::separators)
 }
 
-/// The list's order is open; this one is from the opening on.
+/// The list's order is open; this one is that of the modes, from the opening on.
 pub fn ring_modes(histogram: &[u32], closeness: i32, list: &mut [u32]) -> ModesAnswer {
     modes(histogram, closeness, list, rings::separators)
 }

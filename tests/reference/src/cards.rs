@@ -129,12 +129,13 @@ fn divide(
         met[mode] = true;
         keys[place][level.place] = mode;
     }
-    // So that the keys that occur are all the entries there are. It holds where nothing is joined too: beside each valley
-    // a first segment has a higher bin of its own.
+    // So that the keys that occur are all the entries there are. Beside each valley a first segment has a higher bin of
+    // its own, and a mode has the bins of all the segments that were joined to it, on a ring past the opening too.
     assert!(met.iter().all(|&met| met), "a mode without a pixel");
 }
 
-/// The mode that a bin lies in: back from the bin, on a ring past bin 0 too, to the first start that is met.
+/// The mode that a bin lies in: back from the bin, on a ring past bin 0 too, to the first start that is met. A ring's
+/// modes number from its opening, so the bins from the opening up to the start of mode 0, if any, are the last mode's.
 fn mode_of(bin: usize, starts: &[usize], bins: usize) -> usize {
     (0..bins)
         .map(|back| (bin + bins - back) % bins)
@@ -193,5 +194,16 @@ mod tests {
         let ring = [7, 2, 4];
         let modes: Vec<usize> = (0..10).map(|bin| mode_of(bin, &ring, 10)).collect();
         assert_eq!(modes, [0, 0, 1, 1, 2, 2, 2, 0, 0, 0]);
+    }
+
+    /// Bins 6 and 7 come after the opening and before mode 0.
+    #[test]
+    fn the_last_mode_of_a_ring_goes_on_past_the_opening() {
+        let counts = [2, 20, 2, 2, 2, 13, 1, 20, 2, 2];
+        assert_eq!(rings::opening(&counts), 6);
+        let starts = rings::separators(&counts, 3);
+        assert_eq!(starts, [8, 2]);
+        let modes: Vec<usize> = (0..10).map(|bin| mode_of(bin, &starts, 10)).collect();
+        assert_eq!(modes, [0, 0, 1, 1, 1, 1, 1, 1, 0, 0]);
     }
 }

@@ -137,6 +137,22 @@ fn a_hue_mode_runs_over_the_seam() {
     assert_eq!(card.labels[80], card.labels[159]);
 }
 
+/// The ring opens at hue bin 0, an empty bin amid one hump. The bins after it are in the last mode with those before it,
+/// and mode 0 is the blues, though they come later.
+#[test]
+fn a_hue_mode_goes_on_past_the_opening() {
+    let greens = [120, 110, 75, 60].map(|red| [red, 200, 0]);
+    assert_eq!(
+        greens.map(|[r, g, b]| measures(r, g, b).hue),
+        [58, 59, 1, 2]
+    );
+    let blues = [([100, 0, 200], 40), ([96, 0, 200], 40)];
+    let pixels = repeated(&[greens.map(|green| (green, 8)).as_slice(), &blues].concat());
+    let card = card(&pixels, 0);
+    let hues = card.labels.iter().map(|&label| card.entries[label].hue);
+    assert!(hues.eq([vec![1; 32], vec![0; 80]].concat()));
+}
+
 /// One hue, two saturations, the second with two intensities: three entries in this order.
 #[test]
 fn a_hue_divides_by_saturation_and_then_by_intensity() {

@@ -6,7 +6,7 @@ mod scatter;
 use reference::calls::{LEAST_CLOSENESS, MOST_CLOSENESS};
 use reference::lines::{first_segments, join, modes, Segment};
 use reference::logarithm::{lg, UNIT};
-use reference::rings::opened;
+use reference::rings::{self, Mode};
 use reference::test::{bar, has_step_against, verdict, Verdict};
 use scatter::Scatter;
 
@@ -187,16 +187,21 @@ impl Accepted {
     }
 }
 
+/// The stretches that make a mode a single hump.
+struct Hump {
+    rise: Vec<u64>,
+    fall: Vec<u64>,
+}
+
 /// At every closeness. The two tallies show that there is something to check: modes that were joined over a valley, and
 /// stretches that nothing but their order keeps from being rejected.
-fn check_humps(lines: &[Vec<u64>]) {
+fn check_humps(histograms: &[Vec<u64>], humps: fn(&[u64], i32) -> Vec<Hump>) {
     for closeness in LEAST_CLOSENESS..=MOST_CLOSENESS {
         let mut accepted = Accepted::default();
-        for counts in lines {
-            for Segment { start, peak, end } in modes(counts, closeness) {
-                assert!(start <= peak && peak <= end);
-                accepted.add(&counts[start..=peak], true, closeness);
-                accepted.add(&counts[peak..=end], false, closeness);
+        for counts in histograms {
+            for Hump { rise, fall } in humps(counts, closeness) {
+                accepted.add(&rise, true, closeness);
+                accepted.add(&fall, false, closeness);
             }
         }
         assert!(accepted.uneven > 0, "nothing was joined at {closeness}");
@@ -205,14 +210,39 @@ fn check_humps(lines: &[Vec<u64>]) {
     }
 }
 
-#[test]
-fn each_mode_of_a_line_is_a_single_hump_at_every_closeness() {
-    check_humps(&scattered(1));
+fn humps_of_line(counts: &[u64], closeness: i32) -> Vec<Hump> {
+    let hump = |Segment { start, peak, end }| Hump {
+        rise: counts[start..=peak].to_vec(),
+        fall: counts[peak..=end].to_vec(),
+    };
+    modes(counts, closeness).into_iter().map(hump).collect()
+}
+
+/// Read round: a mode ends at the separator of the next, the last one at that of the first.
+fn humps_of_ring(counts: &[u64], closeness: i32) -> Vec<Hump> {
+    let modes = rings::modes(counts, closeness);
+    let next = modes.iter().cycle().skip(1);
+    let hump = |(mode, next): (&Mode, &Mode)| Hump {
+        rise: rings::rise(counts, mode.separator, mode.peak),
+        fall: rings::fall(counts, mode.peak, next.separator),
+    };
+    modes.iter().zip(next).map(hump).collect()
 }
 
 #[test]
+fn each_mode_of_a_line_is_a_single_hump_at_every_closeness() {
+    check_humps(&scattered(1), humps_of_line);
+}
+
+/// Some of them are joined past the opening.
+#[test]
 fn each_mode_of_a_ring_is_a_single_hump_at_every_closeness() {
     let rings = scattered(2);
-    let lines: Vec<Vec<u64>> = rings.iter().map(|ring| opened(ring)).collect();
-    check_humps(&lines);
+    check_humps(&rings, humps_of_ring);
+    let joined = |closeness| {
+        rings
+            .iter()
+            .any(|ring| rings::joins(ring, closeness).all > 0)
+    };
+    assert!((LEAST_CLOSENESS..=MOST_CLOSENESS).any(joined));
 }
