@@ -29,7 +29,7 @@ IfServed n P = n ≡ 0 → P
 abbrev pub IfTurnedDown : ℕ → Type 0 → Type 0
 IfTurnedDown n P = 0 < n → P
 
--- R5: the separator list of a ring call, lent as `before` and left as `after`. Only the order is free: `order` has the separators in that order, as many as
+-- R8: the separator list of a ring call, lent as `before` and left as `after`. Only the order is free: `order` has the separators in that order, as many as
 -- the answer r says
 pub record RingList (e : Closeness) (h before after : List ℕ) (r : ModesAnswer) : Type 0 where
   pub listed : IfServed (modesNumber e h (length before)) ((order : List ℕ) × ListsOnce e h order × (length order ≡ r .separators) × (after ≡ over order before))

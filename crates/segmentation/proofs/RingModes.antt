@@ -257,7 +257,8 @@ ring-finished e h two bins counts =
       finished = ring-finished-round h two e;
       oneMode = λ b k. ring-one-mode h two e b;
       verdicts = λ w. once-sound e w h two bins counts;
-      fullTurns = λ w m l. turn-sound e w h two bins counts (segmentAt (ringModes e h) m .start) (on .cut .firstTurn m l) (on .low m l);
+      fullTurns = λ w i l low. turn-sound e w h two bins counts i l (omega (arith, low, opening-bins h n i l, opening-total h));
+      low = λ m l. omega (arith, on .low m l, opening-bins h n (segmentAt (ringModes e h) m .start) (on .cut .firstTurn m l), opening-total h);
     }
 
 -- ---- the ring's separators are all different

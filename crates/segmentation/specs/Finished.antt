@@ -1,6 +1,6 @@
 -- D3 for one histogram: no run of modes is joinable, along the line or all round the ring, each mode is a single hump, each bin lies in exactly one mode,
 -- and every verdict has its fit behind it. Assumes nothing.
-use Prim.Native.Nat.{ℕ, suc, _+_, _-_, _≤_, _<_}
+use Prim.Native.Nat.{ℕ, suc, _+_, _*_, _-_, _≤_, _<_}
 use mathlib.Core.Path.{_≡_}
 use mathlib.Core.Bool.{false}
 use mathlib.Core.List.{List}
@@ -83,11 +83,12 @@ pub record RingFinished (e : Closeness) (h : List ℕ) : Type 0 where
   pub place : (b : ℕ) → b < length h → (linePlace h b < length h) × (ringBin h (linePlace h b) ≡ b)
   pub finished : FinishedRound e (roundReader h) (length h) (ringModes e h)
   pub oneMode : (b : ℕ) → b < length h → ExactlyOne (length (ringModes e h)) (λ m. inRingMode e h m b)
-  -- what stands behind the verdict of every stretch, in either direction, that reads no bin twice, and of every full turn from a separator; the stretches of
-  -- the runs and of the humps are among them
+  -- what stands behind the verdict of every stretch, in either direction, that reads no bin twice, and of every full turn from a bin that holds at most half of
+  -- the counts; the stretches of the runs and of the humps are among them
   pub verdicts : (w : Direction) (i j : ℕ) → i ≤ j → j < i + length h → j < length h + length h → VerdictSound e w (roundReader h i j)
-  pub fullTurns : (w : Direction) (m : ℕ) → m < length (ringModes e h)
-      → VerdictSound e w (roundReader h (segmentAt (ringModes e h) m .start) (segmentAt (ringModes e h) m .start + length h))
+  pub fullTurns : (w : Direction) (i : ℕ) → i < length h → 2 * binAt h (ringBin h i) ≤ total h → VerdictSound e w (roundReader h i (i + length h))
+  -- each separator is such a bin, for it is the lowest of all or lower than the one before it
+  pub low : (m : ℕ) → m < length (ringModes e h) → 2 * binAt h (ringBin h (segmentAt (ringModes e h) m .start)) ≤ total h
 
 -- R8: the list is a permutation of the ring's separators, and has none of them twice
 pub record ListsOnce (e : Closeness) (h : List ℕ) (list : List ℕ) : Type 0 where

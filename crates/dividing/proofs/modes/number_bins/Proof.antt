@@ -22,7 +22,7 @@ abbrev μ-loop : tie.MeasureT-loop
 μ-loop separators opening modes₀ bins m₀ i₀ modes m i = bins - i
 
 sub-m : tie.Need-sub-m Inv-loop μ-loop
-sub-m c = c .before .before .pre .0 .some
+sub-m c = omega (arith, c .before .before .pre .0 .some)
 
 loop-holds : tie.Need-loop-holds Inv-loop μ-loop
 loop-holds c =
