@@ -54,9 +54,9 @@ extern "C" {
 /* ---- the version of this header and, from the call, that of the library. If the two differ, the program was linked with
  * another release. Major: a declaration, a number or a figure's meaning changed. Minor: something was added. */
 
-#define KISTROVU_VERSION_MAJOR 4
+#define KISTROVU_VERSION_MAJOR 5
 #define KISTROVU_VERSION_MINOR 0
-#define KISTROVU_VERSION_PATCH 1
+#define KISTROVU_VERSION_PATCH 0
 #define KISTROVU_VERSION (10000 * KISTROVU_VERSION_MAJOR + 100 * KISTROVU_VERSION_MINOR + KISTROVU_VERSION_PATCH)
 
 uint32_t kistrovu_version(void);
@@ -146,8 +146,11 @@ struct kistrovu_verdict_answer kistrovu_verdict(const uint32_t *histogram, size_
 /* ---- the modes of a line of bins, and of a ring, whose last bin is beside its first. Grounds 6, 7, 8, 10
  * The separators are in the first places of the list, and the answer says how many there are; the other places stay as
  * they were. A mode runs from its separator to the bin before the next one. A line's separators rise and end with its last
- * bin, which belongs to the last mode, so there is one mode fewer than separators. A ring has as many modes as separators,
- * which may be listed in any order. */
+ * bin, which belongs to the last mode, so there is one mode fewer than separators.
+ * A ring has as many modes as separators, one or more, which may be listed in any order. It is opened at its lowest bin, the
+ * first of several, and the line from there round to that bin again is segmented. Then its modes are joined all round the
+ * ring, past the opening too, until none can be: so the opening need not be a separator. For example, the ring 0, 4, 0, 0, 4
+ * at closeness 0 is opened at bin 0 and has one separator, bin 2; its one mode runs from there round to bin 1. */
 
 struct kistrovu_modes_answer { /* 8 bytes */
     uint32_t number;

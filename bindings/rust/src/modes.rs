@@ -33,14 +33,18 @@ pub fn line_modes(histogram: &[u32], closeness: i32) -> Result<Vec<u32>, Ground>
 }
 
 /// The separators of a ring of bins, each once: the bins at which its modes begin. Each mode runs from a separator round
-/// to the bin before the next. **Their order is free**, since a ring has no first bin: sort them if the order matters.
-/// Grounds: [`Bins`](Ground::Bins), [`Sum`](Ground::Sum), [`Closeness`](Ground::Closeness).
+/// to the bin before the next. The ring is opened at its lowest bin, the first of several; the modes of the line from
+/// there round to that bin again are then joined all round the ring, past the opening too, so the opening need not be a
+/// separator. **Their order is free**, since a ring has no first bin: sort them if the order matters. Grounds:
+/// [`Bins`](Ground::Bins), [`Sum`](Ground::Sum), [`Closeness`](Ground::Closeness).
 ///
 /// ```
 /// # use kistrovu::{ring_modes, Ground};
 /// let mut separators = ring_modes(&[20, 0, 20, 0], 0)?;
 /// separators.sort();
 /// assert_eq!(separators, [1, 3]);
+/// // Opened at bin 0, which lies inside the one mode that is left: from bin 2 round to bin 1.
+/// assert_eq!(ring_modes(&[0, 4, 0, 0, 4], 0)?, [2]);
 ///
 /// assert_eq!(ring_modes(&[20], 0), Err(Ground::Bins));
 /// assert_eq!(ring_modes(&[65_536, 1], 0), Err(Ground::Sum));

@@ -36,7 +36,7 @@ mod grounds;
 mod printing;
 
 // 10,000 · major + 100 · minor + patch. Its source is the file VERSION; tools/version writes it here.
-const VERSION: u32 = 40001;
+const VERSION: u32 = 50000;
 
 // The answers of the public calls. Each has the call's number: 0 if the call is served, otherwise the ground on which it is turned
 // down. Every other figure is then zero.
@@ -173,7 +173,7 @@ pub extern "C" fn kistrovu_line_modes(
     }
 }
 
-// The modes of a ring: its separators, each once, in the first places of the list; their order is free. Grounds 6, 7, 8, 10.
+// The modes of a ring, joined all round it: its separators, each once, in the first places of the list; their order is free. Grounds 6, 7, 8, 10.
 #[no_mangle]
 pub extern "C" fn kistrovu_ring_modes(
     histogram: &[u32],

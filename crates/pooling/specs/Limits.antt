@@ -1,5 +1,5 @@
--- The largest stretch that is fitted and tested. A ring of 256 bins is opened at its lowest bin, which is repeated at the end: 257 bins. The lowest of two bins or more holds
--- at most half of a sum of 65,536, so the sum with the repeated bin is at most 98,304. Assumes nothing.
+-- The largest stretch that is fitted and tested: a full turn of a ring of 256 bins, from a separator round to it again, 257 bins. A separator is the lowest bin or lower than
+-- the one before it, so it holds at most half of a sum of 65,536, and the sum with that bin twice is at most 98,304. Assumes nothing.
 use Prim.Native.Nat.{ℕ, _≤_}
 use mathlib.Core.List.{List}
 use lib.ListN.{length}

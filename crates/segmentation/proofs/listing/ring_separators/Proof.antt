@@ -52,7 +52,7 @@ ring-numbers-requires c κs =
     let m = c .before .before .before in
     let s = entry m in
     let at : m .ring-modes .result .opening < length (s .args .h .now) = omega (arith, m .ring-modes .ensures .0, opening-in (s .args .h .now) (omega (arith, s .pre .0))) in
-    ((omega (arith, few m, s .pre .0, m .ring-modes .kept), omega (arith, few m, s .pre .1)), (at, s .pre .0 .1))
+    ((omega (arith, few m, s .pre .0, m .ring-modes .kept), omega (arith, few m, s .pre .1)), (omega (arith, at), s .pre .0 .1))
 
 cast-result : tie.Need-cast-result
 cast-result c = let m = modes (numbered c) in omega (arith, few m, entry m .pre .0)
