@@ -31,8 +31,8 @@
  *   - a bool is 0 or 1.
  *
  * No call uses the heap, keeps state or touches anything but its arguments, so calls may run on many threads at once.
- * Stack, as measured: kistrovu_card takes up to 367 KB, kistrovu_print_card up to 183 KB; every other call takes less
- * than 16 KB. The answer is handed back by value, in memory of the caller; its size is given below. Give a thread that
+ * Stack, as measured: kistrovu_card takes up to 365 KB, kistrovu_print_card up to 181 KB; every other call takes less
+ * than 20 KB. The answer is handed back by value, in memory of the caller; its size is given below. Give a thread that
  * makes cards 1 MB.
  *
  * In C++ a call hides the struct of the same name, so write `struct kistrovu_card card`, as in C.

@@ -40,8 +40,8 @@
 //!
 //! # Stack, heap and threads
 //!
-//! The engine keeps everything on the stack: a card call takes up to 367 KB of it, [`print_card`] up to 183 KB, whatever the
-//! image, every other call less than 16 KB. **A thread that makes cards needs 1 MB.** Threads of the standard library
+//! The engine keeps everything on the stack: a card call takes up to 365 KB of it, [`print_card`] up to 181 KB, whatever the
+//! image, every other call less than 20 KB. **A thread that makes cards needs 1 MB.** Threads of the standard library
 //! have 2 MB by default. The engine keeps no state, so calls may run on many threads at once.
 //!
 //! Only the calls that hand back a `Vec` ([`card`], [`line_modes`], [`ring_modes`]) use the heap; without the feature
