@@ -67,6 +67,7 @@ pub fn swatches() -> Vec<Made> {
         served("noise", noise(30, 30)),
         served("noise-of-greys", noise_of_greys()),
         served("cloth-of-five-yarns", cloth(32, 32, 5)),
+        served("crimsons-on-both-sides-of-the-opening", crimsons()),
         served("16384-pixels", cloth(128, 128, 9)),
         served("254-entries", full(254)),
         served("255-entries", full(255)),
@@ -129,6 +130,26 @@ fn cloth(width: usize, height: usize, count: usize) -> Swatch {
     let mut random = Random::new(32 + count as u64);
     let yarns = yarns(&mut random, count);
     woven(&mut random, width, height, &yarns, 2)
+}
+
+/// A Persian cloth whose crimson thread is unevenly dyed: hue bins 39 to 41 and 43 to 45. The ground is so rough that it
+/// has specks of every hue bin except 42, where the ring therefore opens. Few seeds do that and also keep the crimsons
+/// apart from the other yarns.
+fn crimsons() -> Swatch {
+    const GROUND: Pixel = [188, 192, 190];
+    const GREEN: Pixel = [70, 110, 50];
+    const INDIGO: Pixel = [38, 52, 110];
+    let crimson = [95, 84, 73, 50, 37, 24].map(|blue| [150, 30, blue]);
+    let mut random = Random::new(2268);
+    Swatch::new(40, 30, |column, row| {
+        let (yarn, noise) = match column {
+            2 | 3 | 22 | 23 => (GREEN, 2),
+            9 | 10 | 29 | 30 => (INDIGO, 2),
+            15 => (crimson[row / 5], 2),
+            _ => (GROUND, 10),
+        };
+        noisy(&mut random, yarn, noise)
+    })
 }
 
 /// Ten pixels for each entry.

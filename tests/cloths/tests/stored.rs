@@ -2,6 +2,9 @@
 
 use cloths::stored::{folders, printed};
 use reference::calls::print_card;
+use reference::cards::{card, Pixel};
+use reference::measures::measures;
+use reference::{lines, rings, swatches};
 use std::collections::BTreeSet;
 use std::fs;
 
@@ -80,4 +83,38 @@ fn the_longest_swatch_and_one_byte_more() {
     assert_eq!(len("16384-pixels"), 13 * 16_385);
     assert_eq!(len("16384-pixels-one-byte-too-long"), 13 * 16_385 + 1);
     assert_eq!(len("16384-pixels-one-byte-too-short"), 13 * 16_385 - 1);
+}
+
+/// The opened line alone has two modes for the crimsons, the first and the last; joined past the opening they are one
+/// entry, and no other pixel is in it.
+#[test]
+fn crimsons_on_both_sides_of_the_opening_are_one_entry() {
+    let [folder, _] = folders();
+    let wanted = "crimsons-on-both-sides-of-the-opening";
+    let made = folder.made.iter().find(|made| made.name == wanted);
+    let pixels = swatches::read(&made.expect(wanted).text).expect("it is served");
+    let crimson = |[red, green, _]: &Pixel| *green < 40 && *red > 140;
+    let mut ring = vec![0; 60];
+    let mut hues = BTreeSet::new();
+    for pixel @ [red, green, blue] in &pixels {
+        let m = measures(*red, *green, *blue);
+        ring[usize::from(m.hue)] += u64::from(!m.grey);
+        hues.extend(crimson(pixel).then_some(m.hue));
+    }
+    assert_eq!(hues, BTreeSet::from([39, 40, 41, 43, 44, 45]));
+    assert_eq!(rings::opening(&ring), 42);
+    let of_line = lines::modes(&rings::opened(&ring), 0).len();
+    assert_eq!((of_line, rings::modes(&ring, 0).len()), (4, 3));
+    let card = card(&pixels, 0);
+    let labels = card.labels.iter().zip(&pixels);
+    let bear = |label: usize| labels.clone().filter(move |(&of, _)| of == label);
+    let entries: BTreeSet<usize> = labels
+        .clone()
+        .filter(|(_, pixel)| crimson(pixel))
+        .map(|(&label, _)| label)
+        .collect();
+    assert_eq!(entries.len(), 1);
+    assert!(entries
+        .iter()
+        .all(|&label| bear(label).all(|(_, pixel)| crimson(pixel))));
 }
