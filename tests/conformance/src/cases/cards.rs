@@ -137,6 +137,53 @@ const RULES: &[Rule] = &[
         ],
     ),
     (
+        "one hue on both sides of the ring's opening, and no other",
+        0,
+        &[
+            ([120, 200, 0], 8),
+            ([110, 200, 0], 8),
+            ([75, 200, 0], 8),
+            ([60, 200, 0], 8),
+        ],
+    ),
+    (
+        "the same at a closeness that keeps them apart",
+        -10,
+        &[
+            ([120, 200, 0], 8),
+            ([110, 200, 0], 8),
+            ([75, 200, 0], 8),
+            ([60, 200, 0], 8),
+        ],
+    ),
+    (
+        "the hue on both sides of the ring's opening is the last mode, though some of its bins come first",
+        0,
+        &[
+            ([75, 200, 0], 8),
+            ([60, 200, 0], 8),
+            ([100, 0, 200], 40),
+            ([96, 0, 200], 40),
+            ([120, 200, 0], 8),
+            ([110, 200, 0], 8),
+        ],
+    ),
+    (
+        "the same with greys, and with tints on both sides: a mode over the opening is split by all of its pixels",
+        0,
+        &[
+            ([90; 3], 20),
+            ([75, 200, 0], 4),
+            ([60, 200, 0], 4),
+            ([138, 170, 120], 8),
+            ([100, 0, 200], 40),
+            ([96, 0, 200], 40),
+            ([120, 200, 0], 4),
+            ([110, 200, 0], 4),
+            ([158, 180, 120], 8),
+        ],
+    ),
+    (
         "one hue of two saturations",
         0,
         &[([120, 100, 100], 50), ([200, 40, 40], 50)],
@@ -243,8 +290,7 @@ fn pixel_counts() -> Vec<Case> {
 /// Ground 8 from both sides.
 fn closenesses() -> Vec<Case> {
     let pixels = runs(&[(BLACK, 20), (RED, 20), (WHITE, 20), (BLUE, 20)]);
-    let served =
-        (LEAST_CLOSENESS..=MOST_CLOSENESS).map(|closeness| ("every closeness", closeness));
+    let served = (LEAST_CLOSENESS..=MOST_CLOSENESS).map(|closeness| ("every closeness", closeness));
     let refused = [
         ("closeness 21: ground 8", 21),
         ("a closeness that is 0 in 8 bits: ground 8", 1 << 8),

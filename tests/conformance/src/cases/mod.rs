@@ -7,6 +7,7 @@ pub mod grounds;
 pub mod histograms;
 pub mod modes;
 pub mod pixels;
+mod rounds;
 pub mod texts;
 pub mod verdicts;
 

@@ -1,7 +1,7 @@
 //! Histograms for the modes of a line and of a ring.
 
 use super::histograms::{every, limits, telling, Named, SHAPES};
-use super::{unwritten_list, Case};
+use super::{rounds, unwritten_list, Case};
 use crate::calls::{Call, Listing};
 use cloths::random::Random;
 use compare::mode_shapes;
@@ -84,6 +84,9 @@ pub fn rings() -> Vec<Case> {
     }
     all.extend(common(&[20, 0, 20, 0]));
     all.extend(for_rules(RING_RULES));
+    all.extend(for_rules(rounds::ROUND_RULES));
+    let round = rounds::rings().into_iter();
+    all.extend(round.map(|(named, closeness)| fitting(named, closeness)));
     all.extend(turned());
     all.extend(every_small(&[
         (2, &[0, 1, 20]),
@@ -206,7 +209,7 @@ fn grounds_at_once() -> Vec<Asked> {
 }
 
 /// Histograms on which an engine that has misread a rule gives other separators: the rule, a closeness, the counts.
-type Rule = (&'static str, i32, &'static [u32]);
+pub type Rule = (&'static str, i32, &'static [u32]);
 
 const LINE_RULES: &[Rule] = &[
     ("the leftmost of equal runs is joined", 0, &[8, 1, 3, 1, 8]),
@@ -345,13 +348,20 @@ const RING_RULES: &[Rule] = &[
     ),
     ("a peak is the first highest bin", 0, &[1, 8, 1, 8, 8]),
     ("a peak is the first highest bin", 0, &[4, 15, 15, 4, 15]),
+    // What a line leaves is joined round the ring, so on few rings does it show that the line was not finished.
     (
         "after a join runs of two come again",
+        -1,
+        &[0, 3, 0, 4, 0, 3, 0, 3],
+    ),
+    ("runs of four are joined too", -4, &[3, 2, 3, 2, 5, 2, 5, 2]),
+    (
+        "runs of more than two are joined too",
         0,
         &[0, 5, 0, 5, 0, 5, 0, 5],
     ),
     (
-        "after a join runs of two come again",
+        "runs of more than two are joined too",
         0,
         &[0, 8, 0, 5, 0, 5, 0, 8],
     ),
