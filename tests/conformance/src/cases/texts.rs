@@ -17,10 +17,7 @@ const GREY_LINE: &[u8] = b"   9   9   9\n";
 const LONGEST: usize = 13 * 16_385;
 
 pub fn cases() -> Result<Vec<Case>, String> {
-    let mut all = vec![text(
-        "the first sample, black beside red",
-        BLACK_BESIDE_RED,
-    )];
+    let mut all = vec![text("the first sample, black beside red", BLACK_BESIDE_RED)];
     all.extend(headers());
     all.extend(sizes());
     all.extend(pixel_lines());
