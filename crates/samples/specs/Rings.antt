@@ -33,7 +33,7 @@ joinsRound =
     ∷ round (minus 1) (4 ∷ 0 ∷ 4 ∷ 0 ∷ 4 ∷ 0 ∷ 0 ∷ 4 ∷ 0 ∷ []) (mode 4 12 13 ∷ [])
     -- of a run past the opening too, a rise keeps the last peak, a fall the first
     ∷ round (minus 1) (7 ∷ 0 ∷ 3 ∷ 0 ∷ 4 ∷ 0 ∷ 0 ∷ 7 ∷ []) (mode 4 6 12 ∷ [])
-    -- a run that does not go past the opening may become joinable round the ring
+    -- after a join past the opening, a run that ends with its mode may be joinable
     ∷ round (minus 1) (85 ∷ 85 ∷ 60 ∷ 85 ∷ 60 ∷ 60 ∷ 98 ∷ 60 ∷ []) (mode 2 4 10 ∷ [])
     -- the line is finished before any run is taken round
     ∷ round (pos 0) (12 ∷ 0 ∷ 5 ∷ 0 ∷ 0 ∷ 5 ∷ 0 ∷ 12 ∷ []) (mode 2 6 10 ∷ [])
