@@ -4,6 +4,7 @@
 use crate::card_groups::CardCase;
 use crate::comparison::{Difference, Tally};
 use engine::{Card, IntoRaw, Printed};
+use reference::cards::COLOUR;
 
 /// Places in front of and behind the labels that were lent: they are not the engine's to write.
 const AROUND: usize = 5;
@@ -19,8 +20,10 @@ pub fn card(case: &CardCase, tally: &mut Tally) -> Result<(), Difference> {
     let mut expected_list = list.clone();
     let labels = AROUND..AROUND + places;
     let answer = engine::card(&mut lent, *closeness, &mut list[labels.clone()]);
-    let expected = reference::calls::card(bytes, *closeness, &mut expected_list[labels]);
+    let (expected, hue_joins) =
+        reference::calls::card_and_hue_joins(bytes, *closeness, &mut expected_list[labels]);
     let expected = expected.into_raw();
+    tally.round.count(hue_joins, hue_modes(&expected));
     tally.cards += 1;
     tally.count(expected.number);
     tally.several += u64::from(expected.len > 1);
@@ -56,6 +59,15 @@ pub fn card(case: &CardCase, tally: &mut Tally) -> Result<(), Difference> {
         reference: told(&expected, &expected_list, bytes),
         engine: told(&answer, &list, &lent),
     })
+}
+
+/// Each has entries, and the entries are in the order of the hue modes, which number from 0.
+fn hue_modes(card: &Card) -> usize {
+    let entries = &card.entries[..card.len as usize];
+    let last = entries
+        .last()
+        .filter(|entry| usize::from(entry.kind) == COLOUR);
+    last.map_or(0, |entry| usize::from(entry.hue) + 1)
 }
 
 pub fn text(text: &[u8], tally: &mut Tally) -> Result<(), Difference> {

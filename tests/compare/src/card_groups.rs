@@ -1,9 +1,12 @@
 //! The named groups of swatches for the card call, each of which is one test.
 
 use crate::card_shapes::{self, CardShape, SHAPES};
+use crate::closenesses;
+use crate::joined_cards::{self, JoinedCardShape};
+use crate::joined_shapes;
+use crate::round_joins::Least;
 use cloths::full_cards;
 use cloths::random::Random;
-use crate::closenesses;
 use reference::calls::{LEAST_CLOSENESS, MOST_CLOSENESS, MOST_PIXELS};
 use reference::cards::Pixel;
 
@@ -20,11 +23,13 @@ pub enum CardSource {
     List(fn(&mut Random) -> Vec<CardCase>),
     /// Drawn from one shape with at most this many pixels; how many are drawn, in thousandths of the count.
     Draw(CardShape, usize, usize),
+    /// Drawn from one shape made for joins round the ring of hues; how many, in thousandths of the count.
+    JoinedDraw(JoinedCardShape, usize, Least),
 }
 
-use CardSource::{Draw, List};
+use CardSource::{Draw, JoinedDraw, List};
 
-pub const CARDS: [(&str, CardSource); 20] = [
+pub const CARDS: [(&str, CardSource); 22] = [
     ("samples", List(samples)),
     ("grounds", List(grounds)),
     ("one pixel", List(one_pixel)),
@@ -48,7 +53,28 @@ pub const CARDS: [(&str, CardSource); 20] = [
     ("gradients", Draw(card_shapes::gradients, 3000, 4)),
     ("nearly grey", Draw(card_shapes::nearly_grey, 2000, 4)),
     ("few levels", Draw(card_shapes::few_levels, 4000, 2)),
+    (
+        "hues of rings opened inside a hump",
+        JoinedDraw(joined_cards::hues_of_a_ring, 6, LEAST_OF_RINGS),
+    ),
+    (
+        "one hue left out",
+        JoinedDraw(joined_cards::hue_left_out, 6, LEAST_OF_HUES_LEFT_OUT),
+    ),
 ];
+
+const LEAST_OF_RINGS: Least = Least {
+    joined: 450,
+    again: 20,
+    divided: 200,
+    long: 2,
+};
+const LEAST_OF_HUES_LEFT_OUT: Least = Least {
+    joined: 500,
+    again: 0,
+    divided: 400,
+    long: 0,
+};
 
 impl CardSource {
     /// Hands each case on, until one is refused.
@@ -63,8 +89,26 @@ impl CardSource {
             Draw(shape, most, share) => {
                 (0..count * share / 1000).try_for_each(|_| visit(&draw(random, *shape, *most)))
             }
+            JoinedDraw(shape, share, _) => {
+                (0..count * share / 1000).try_for_each(|_| visit(&draw_joined(random, *shape)))
+            }
         }
     }
+
+    /// How many joins round the ring of hues the group is to have.
+    pub fn least(&self) -> Option<&Least> {
+        match self {
+            List(_) | Draw(..) => None,
+            JoinedDraw(_, _, least) => Some(least),
+        }
+    }
+}
+
+fn draw_joined(random: &mut Random, shape: JoinedCardShape) -> CardCase {
+    let pixels = shape(random);
+    let hues = joined_cards::hues(&pixels);
+    let closeness = joined_shapes::near_joining_closeness(random, &hues);
+    fitting(&pixels, closeness)
 }
 
 /// Small swatches more often than large ones, low closenesses more often than high ones; now and then one that is
@@ -76,7 +120,9 @@ fn draw(random: &mut Random, shape: CardShape, most: usize) -> CardCase {
     let top = if random.coin() { 3 } else { MOST_CLOSENESS };
     let mut case = fitting(&pixels, random.signed_within(LEAST_CLOSENESS, top));
     match random.below(100) {
-        0 => case.closeness = closenesses::AT_THE_ENDS[random.below(closenesses::AT_THE_ENDS.len())],
+        0 => {
+            case.closeness = closenesses::AT_THE_ENDS[random.below(closenesses::AT_THE_ENDS.len())]
+        }
         1 => case.places = random.below(2 * case.places + 2),
         2 => case.bytes.truncate(random.below(case.bytes.len())),
         _ => {}
@@ -195,7 +241,13 @@ fn every_closeness(random: &mut Random) -> Vec<CardCase> {
 /// Enough pixels for each entry that none joins at this closeness: 255 are served, 256 are not.
 fn limit(_: &mut Random) -> Vec<CardCase> {
     let mut cases = Vec::new();
-    for (each, closeness) in [(1, LEAST_CLOSENESS), (10, 0), (64, 0), (64, 10), (250, MOST_CLOSENESS)] {
+    for (each, closeness) in [
+        (1, LEAST_CLOSENESS),
+        (10, 0),
+        (64, 0),
+        (64, 10),
+        (250, MOST_CLOSENESS),
+    ] {
         for entries in [254, 255, 256, 257] {
             cases.push(fitting(&full_cards::pixels(entries, each), closeness));
         }

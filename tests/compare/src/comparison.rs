@@ -2,7 +2,9 @@
 
 use crate::groups::Case;
 use crate::mode_groups::ModesCase;
+use crate::round_joins::RoundTally;
 use engine::IntoRaw;
+use reference::calls::{self, ModesAnswer};
 use std::fmt::Debug;
 
 /// The calls that are compared in this run.
@@ -80,6 +82,8 @@ pub struct Tally {
     pub turned_down: u64,
     pub rejected: u64,
     pub grey: u64,
+    /// Of rings, and of the hue rings of cards.
+    pub round: RoundTally,
 }
 
 impl Tally {
@@ -97,6 +101,19 @@ pub struct Difference {
     pub input: String,
     pub reference: String,
     pub engine: String,
+}
+
+/// Why a group fails.
+pub enum Failure {
+    Difference(Difference),
+    /// Nothing differed, but too little was compared: of what, and how much.
+    TooFew(String),
+}
+
+impl From<Difference> for Failure {
+    fn from(difference: Difference) -> Failure {
+        Failure::Difference(difference)
+    }
 }
 
 fn same<T: Debug + PartialEq>(
@@ -118,7 +135,7 @@ pub fn every_pixel(tally: &mut Tally) -> Result<(), Difference> {
     for red in 0..=255 {
         for green in 0..=255 {
             for blue in 0..=255 {
-                let expected = reference::calls::measures(red, green, blue);
+                let expected = calls::measures(red, green, blue);
                 let answer = engine::measures(red, green, blue);
                 tally.measures += 1;
                 tally.count(expected.number);
@@ -152,7 +169,7 @@ pub fn case(case: &Case, calls: Calls, tally: &mut Tally) -> Result<(), Differen
 fn fit(histogram: &[u32], rising: bool, tally: &mut Tally) -> Result<(), Difference> {
     let mut lent = histogram.to_vec();
     let answer = engine::fit(&mut lent, rising);
-    let expected = reference::calls::fit(histogram, rising);
+    let expected = calls::fit(histogram, rising);
     tally.fits += 1;
     tally.count(expected.number);
     let input = || format!("fit, {}, of {}", direction(rising), listed(histogram));
@@ -168,7 +185,7 @@ fn verdict(
 ) -> Result<(), Difference> {
     let mut lent = histogram.to_vec();
     let answer = engine::verdict(&mut lent, rising, closeness);
-    let expected = reference::calls::verdict(histogram, rising, closeness);
+    let expected = calls::verdict(histogram, rising, closeness);
     tally.verdicts += 1;
     tally.count(expected.number);
     tally.rejected += u64::from(expected.verdict.rejected);
@@ -195,14 +212,15 @@ pub fn modes(form: Form, case: &ModesCase, tally: &mut Tally) -> Result<(), Diff
     let mut lent = histogram.clone();
     let mut list = unwritten(places + BEHIND);
     let mut expected_list = list.clone();
+    let (engine_list, reference_list) = (&mut list[..*places], &mut expected_list[..*places]);
     let (answer, expected) = match form {
         Form::Line => (
-            engine::line_modes(&mut lent, *closeness, &mut list[..*places]),
-            reference::calls::line_modes(histogram, *closeness, &mut expected_list[..*places]),
+            engine::line_modes(&mut lent, *closeness, engine_list),
+            calls::line_modes(histogram, *closeness, reference_list),
         ),
         Form::Ring => (
-            engine::ring_modes(&mut lent, *closeness, &mut list[..*places]),
-            reference::calls::ring_modes(histogram, *closeness, &mut expected_list[..*places]),
+            engine::ring_modes(&mut lent, *closeness, engine_list),
+            ring_modes(histogram, *closeness, reference_list, &mut tally.round),
         ),
     };
     tally.modes += 1;
@@ -223,6 +241,18 @@ pub fn modes(form: Form, case: &ModesCase, tally: &mut Tally) -> Result<(), Diff
     }
     same(input, (expected.into_raw(), expected_list), (answer, list))?;
     same(|| format!("histogram after {}", input()), histogram, &lent)
+}
+
+/// The reference's answer, with its joins round the ring counted.
+fn ring_modes(
+    histogram: &[u32],
+    closeness: i32,
+    list: &mut [u32],
+    round: &mut RoundTally,
+) -> ModesAnswer {
+    let (answer, joins) = calls::ring_modes_and_joins(histogram, closeness, list);
+    round.count(joins, answer.separators as usize);
+    answer
 }
 
 impl Form {

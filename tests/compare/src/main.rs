@@ -8,14 +8,16 @@
 //! take `libkistrovu.a` from; KISTROVU_CARD names the card program, which is then run on the stored swatches too.
 //! Without arguments the run is the same every time: all pixels, the listed histograms, lines, rings, swatches and texts,
 //! and random ones: `COUNT` histograms, and the shares of `COUNT` that the lists of groups give. Each group prints a
-//! line; at the first difference a group ends with the input and both answers. The last line is the number of groups
-//! passed and failed, and the exit code is 1 if one failed.
+//! line; at the first difference a group ends with the input and both answers. A group of rings or swatches made for joins
+//! round the ring also fails if it has too few of them. The last line is the number of groups passed and failed, and the
+//! exit code is 1 if one failed.
 
 use cloths::random::Random;
 use compare::card_groups::CARDS;
-use compare::comparison::{self, Calls, Difference, Form, Tally};
-use compare::groups::{Source, GROUPS};
+use compare::comparison::{self, Calls, Difference, Failure, Form, Tally};
+use compare::groups::GROUPS;
 use compare::mode_groups::{ModesSource, BOTH, LINES, RINGS};
+use compare::round_joins::Least;
 use compare::text_groups::{GROUNDS, TEXTS};
 use compare::{card_comparison, stored};
 use std::process::ExitCode;
@@ -74,143 +76,170 @@ fn options(mut words: impl Iterator<Item = String>) -> Result<Options, String> {
     Ok(options)
 }
 
+/// The groups that were compared so far.
+struct Run<'a> {
+    options: &'a Options,
+    passed: usize,
+    failed: usize,
+}
+
 /// How many groups passed and failed.
 fn run(options: &Options) -> (usize, usize) {
-    let (mut passed, mut failed) = (0, 0);
-    let mut note = |name: &str, tally: Tally, outcome: Result<(), Difference>| {
-        match outcome {
-            Ok(()) => passed += 1,
-            Err(_) => failed += 1,
-        }
-        report(name, &tally, outcome.err());
+    let mut run = Run {
+        options,
+        passed: 0,
+        failed: 0,
     };
     println!("seed {}, {} drawn histograms", options.seed, options.count);
-    if options.calls.measures {
+    let calls = options.calls;
+    if calls.measures {
         let mut tally = Tally::default();
         let outcome = comparison::every_pixel(&mut tally);
-        note("measures of every pixel", tally, outcome);
+        run.note("measures of every pixel", tally, outcome);
     }
-    if options.calls.fits || options.calls.verdicts {
+    if calls.fits || calls.verdicts {
+        run.histograms();
+    }
+    if calls.lines {
+        run.modes(Form::Line, &LINES, LINE_STREAMS);
+    }
+    if calls.rings {
+        run.modes(Form::Ring, &RINGS, RING_STREAMS);
+    }
+    if calls.cards {
+        run.cards();
+    }
+    if calls.texts {
+        run.texts();
+        run.grounds();
+    }
+    if calls.stored {
+        run.stored();
+    }
+    (run.passed, run.failed)
+}
+
+impl Run<'_> {
+    fn note<F: Into<Failure>>(&mut self, name: &str, tally: Tally, outcome: Result<(), F>) {
+        match outcome {
+            Ok(()) => self.passed += 1,
+            Err(_) => self.failed += 1,
+        }
+        report(name, &tally, outcome.err().map(F::into));
+    }
+
+    /// Each group draws from a stream of its own, so that a change of one leaves the others as they were.
+    fn stream(&self, index: usize) -> Random {
+        Random::new(Random::new(self.options.seed).bits() ^ index as u64)
+    }
+
+    fn histograms(&mut self) {
         for (index, (name, source)) in GROUPS.iter().enumerate() {
             let mut tally = Tally::default();
-            let outcome = compare_group(source, index, options, &mut tally);
-            note(name, tally, outcome);
+            let cases = source.cases(&mut self.stream(index), self.options.count);
+            let outcome = cases
+                .iter()
+                .try_for_each(|case| comparison::case(case, self.options.calls, &mut tally));
+            self.note(name, tally, outcome);
         }
     }
-    let mut modes = |form: Form, groups: &[(&str, ModesSource)], first_stream: usize| {
+
+    fn modes(&mut self, form: Form, groups: &[(&str, ModesSource)], first_stream: usize) {
         for (index, (name, source)) in BOTH.iter().chain(groups).enumerate() {
             let mut tally = Tally::default();
-            let outcome = compare_modes(form, source, first_stream + index, options, &mut tally);
-            note(&format!("{}, {name}", form.name()), tally, outcome);
+            let mut random = self.stream(first_stream + index);
+            let cases = source.cases(&mut random, self.options.count);
+            let outcome = cases
+                .iter()
+                .try_for_each(|case| comparison::modes(form, case, &mut tally));
+            let outcome = judged(outcome, source.least(), &tally);
+            self.note(&format!("{}, {name}", form.name()), tally, outcome);
         }
-    };
-    if options.calls.lines {
-        modes(Form::Line, &LINES, LINE_STREAMS);
     }
-    if options.calls.rings {
-        modes(Form::Ring, &RINGS, RING_STREAMS);
-    }
-    if options.calls.cards {
+
+    fn cards(&mut self) {
         for (index, (name, source)) in CARDS.iter().enumerate() {
             let mut tally = Tally::default();
-            let mut random = stream(options.seed, CARD_STREAMS + index);
-            let outcome = source.each(&mut random, options.count, |case| {
+            let mut random = self.stream(CARD_STREAMS + index);
+            let outcome = source.each(&mut random, self.options.count, |case| {
                 card_comparison::card(case, &mut tally)
             });
-            note(&format!("card, {name}"), tally, outcome);
+            let outcome = judged(outcome, source.least(), &tally);
+            self.note(&format!("card, {name}"), tally, outcome);
         }
     }
-    if options.calls.texts {
+
+    fn texts(&mut self) {
         for (index, (name, source)) in TEXTS.iter().enumerate() {
             let mut tally = Tally::default();
-            let mut random = stream(options.seed, TEXT_STREAMS + index);
-            let outcome = source.each(&mut random, options.count, |text| {
+            let mut random = self.stream(TEXT_STREAMS + index);
+            let outcome = source.each(&mut random, self.options.count, |text| {
                 card_comparison::text(text, &mut tally)
             });
-            note(&format!("text, {name}"), tally, outcome);
+            self.note(&format!("text, {name}"), tally, outcome);
         }
+    }
+
+    fn grounds(&mut self) {
         for (index, (name, numbers)) in GROUNDS.iter().enumerate() {
             let mut tally = Tally::default();
-            let mut random = stream(options.seed, GROUND_STREAMS + index);
-            let outcome = numbers(&mut random, options.count)
+            let mut random = self.stream(GROUND_STREAMS + index);
+            let outcome = numbers(&mut random, self.options.count)
                 .into_iter()
                 .try_for_each(|number| card_comparison::ground(number, &mut tally));
-            note(&format!("line of a ground, {name}"), tally, outcome);
+            self.note(&format!("line of a ground, {name}"), tally, outcome);
         }
     }
-    if options.calls.stored {
+
+    fn stored(&mut self) {
         let mut tally = Tally::default();
         let outcome = stored::by_calls(&mut tally);
-        note("stored swatches, by the calls", tally, outcome);
-        if let Some(program) = stored::program() {
-            let mut tally = Tally::default();
-            let outcome = stored::by_program(&program, &mut tally);
-            note("stored swatches, by the program", tally, outcome);
-            let mut tally = Tally::default();
-            let mut random = stream(options.seed, PROGRAM_STREAM);
-            let outcome = stored::long_by_program(&program, &mut random, &mut tally);
-            note("very long texts, by the program", tally, outcome);
-        } else {
+        self.note("stored swatches, by the calls", tally, outcome);
+        let Some(program) = stored::program() else {
             println!("-      stored swatches, by the program: not run, KISTROVU_CARD is not set");
+            return;
+        };
+        let mut tally = Tally::default();
+        let outcome = stored::by_program(&program, &mut tally);
+        self.note("stored swatches, by the program", tally, outcome);
+        let mut tally = Tally::default();
+        let mut random = self.stream(PROGRAM_STREAM);
+        let outcome = stored::long_by_program(&program, &mut random, &mut tally);
+        self.note("very long texts, by the program", tally, outcome);
+    }
+}
+
+/// Where nothing differs, there are to be enough joins round the ring.
+fn judged(
+    outcome: Result<(), Difference>,
+    least: Option<&Least>,
+    tally: &Tally,
+) -> Result<(), Failure> {
+    outcome?;
+    least.map_or(Ok(()), |least| least.check(&tally.round))
+}
+
+fn report(name: &str, tally: &Tally, failure: Option<Failure>) {
+    let outcome = if failure.is_some() { "FAILED" } else { "ok" };
+    println!("{outcome:6} {name}: {}", compared(tally));
+    match failure {
+        None => {}
+        Some(Failure::TooFew(told)) => println!("  too few {told}"),
+        Some(Failure::Difference(difference)) => {
+            println!("  {}", difference.input);
+            println!("  reference: {}", difference.reference);
+            println!("  engine:    {}", difference.engine);
         }
     }
-    (passed, failed)
 }
 
-/// Each group draws from a stream of its own, so that a change of one leaves the others as they were.
-fn compare_group(
-    source: &Source,
-    index: usize,
-    options: &Options,
-    tally: &mut Tally,
-) -> Result<(), Difference> {
-    let cases = source.cases(&mut stream(options.seed, index), options.count);
-    cases
-        .iter()
-        .try_for_each(|case| comparison::case(case, options.calls, tally))
-}
-
-fn compare_modes(
-    form: Form,
-    source: &ModesSource,
-    index: usize,
-    options: &Options,
-    tally: &mut Tally,
-) -> Result<(), Difference> {
-    let cases = source.cases(&mut stream(options.seed, index), options.count);
-    cases
-        .iter()
-        .try_for_each(|case| comparison::modes(form, case, tally))
-}
-
-fn stream(seed: u64, index: usize) -> Random {
-    Random::new(Random::new(seed).bits() ^ index as u64)
-}
-
-fn report(name: &str, tally: &Tally, difference: Option<Difference>) {
-    let compared = if tally.measures > 0 {
+fn compared(tally: &Tally) -> String {
+    if tally.measures > 0 {
         format!("{} pixels, {} grey", tally.measures, tally.grey)
-    } else if tally.modes > 0 {
-        format!(
-            "{} histograms, {} served, {} turned down, {} of several modes",
-            tally.modes, tally.served, tally.turned_down, tally.several
-        )
-    } else if tally.cards > 0 {
-        format!(
-            "{} swatches, {} served, {} turned down, {} of several entries, {} at most",
-            tally.cards, tally.served, tally.turned_down, tally.several, tally.most
-        )
+    } else if tally.modes > 0 || tally.cards > 0 {
+        compared_modes(tally)
     } else if tally.texts > 0 {
-        let numbers = tally.grounds.iter().enumerate().skip(1);
-        let grounds = numbers.filter(|(_, &count)| count > 0);
-        let down: Vec<String> = grounds
-            .map(|(n, count)| format!("{count} with {n}"))
-            .collect();
-        let down = down.join(", ");
-        format!(
-            "{} texts, {} served, {} turned down ({down})",
-            tally.texts, tally.served, tally.turned_down
-        )
+        compared_texts(tally)
     } else if tally.lines > 0 {
         format!("{} numbers", tally.lines)
     } else if tally.stored > 0 {
@@ -225,12 +254,37 @@ fn report(name: &str, tally: &Tally, difference: Option<Difference>) {
             tally.turned_down,
             tally.rejected
         )
-    };
-    let outcome = if difference.is_some() { "FAILED" } else { "ok" };
-    println!("{outcome:6} {name}: {compared}");
-    if let Some(difference) = difference {
-        println!("  {}", difference.input);
-        println!("  reference: {}", difference.reference);
-        println!("  engine:    {}", difference.engine);
     }
+}
+
+/// Of lines, rings and cards. Nothing is joined round a line.
+fn compared_modes(tally: &Tally) -> String {
+    let calls = format!("{} served, {} turned down", tally.served, tally.turned_down);
+    let several = tally.several;
+    let mut told = if tally.cards > 0 {
+        let (cards, most) = (tally.cards, tally.most);
+        format!("{cards} swatches, {calls}, {several} of several entries, {most} at most")
+    } else {
+        format!(
+            "{} histograms, {calls}, {several} of several modes",
+            tally.modes
+        )
+    };
+    if tally.round.rings > 0 {
+        told += &format!(", {}", tally.round.told());
+    }
+    told
+}
+
+fn compared_texts(tally: &Tally) -> String {
+    let numbers = tally.grounds.iter().enumerate().skip(1);
+    let grounds = numbers.filter(|(_, &count)| count > 0);
+    let down: Vec<String> = grounds
+        .map(|(n, count)| format!("{count} with {n}"))
+        .collect();
+    let down = down.join(", ");
+    format!(
+        "{} texts, {} served, {} turned down ({down})",
+        tally.texts, tally.served, tally.turned_down
+    )
 }

@@ -1,8 +1,10 @@
 //! The named groups of lines and rings, each of which is one test.
 
 use crate::closenesses;
+use crate::joined_shapes::{self, JOINED_SAMPLES, JOINED_SHAPES};
 use crate::mode_shapes;
 use crate::mode_ties::MODE_TIES;
+use crate::round_joins::Least;
 use crate::shapes::{self, Shape, SHAPES};
 use cloths::random::Random;
 use reference::calls::{LEAST_CLOSENESS, MOST_BINS, MOST_CLOSENESS};
@@ -20,9 +22,13 @@ pub enum ModesSource {
     List(fn(&mut Random) -> Vec<ModesCase>),
     /// Drawn from one shape; how many, in hundredths of the count.
     Draw(Shape, usize),
+    /// A list of rings made for joins round the ring.
+    JoinedList(fn(&mut Random) -> Vec<ModesCase>, Least),
+    /// Drawn from one shape made for joins round the ring; how many, in hundredths of the count.
+    JoinedDraw(Shape, usize, Least),
 }
 
-use ModesSource::{Draw, List};
+use ModesSource::{Draw, JoinedDraw, JoinedList, List};
 
 /// The groups that lines and rings share.
 pub const BOTH: [(&str, ModesSource); 11] = [
@@ -53,7 +59,7 @@ pub const LINES: [(&str, ModesSource); 11] = [
     ("huge counts", Draw(shapes::huge, 1)),
 ];
 
-pub const RINGS: [(&str, ModesSource); 10] = [
+pub const RINGS: [(&str, ModesSource); 18] = [
     ("lowest bin repeated", Draw(mode_shapes::lowest_repeated, 6)),
     (
         "flat lowest over the seam",
@@ -67,15 +73,121 @@ pub const RINGS: [(&str, ModesSource); 10] = [
     ("alternating", Draw(shapes::alternating, 2)),
     ("sums around 65,536", Draw(shapes::near_the_limit, 1)),
     ("huge counts", Draw(shapes::huge, 1)),
+    (
+        "flat humps over the opening",
+        JoinedDraw(joined_shapes::flat_humps, 20, LEAST_OF_FLAT_HUMPS),
+    ),
+    (
+        "sloping humps over the opening",
+        JoinedDraw(joined_shapes::sloping_humps, 20, LEAST_OF_SLOPING_HUMPS),
+    ),
+    (
+        "spikes on both sides of the opening",
+        JoinedDraw(joined_shapes::spikes_in_a_row, 20, LEAST_OF_SPIKES),
+    ),
+    (
+        "few levels, opened inside a hump",
+        JoinedDraw(joined_shapes::few_levels, 20, LEAST_OF_FEW_LEVELS),
+    ),
+    (
+        "opened inside a hump, every closeness -12 to 22",
+        JoinedList(joined_every_closeness, LEAST_AT_EVERY_CLOSENESS),
+    ),
+    (
+        "opened inside a hump, 59 to 61, 255 and 256 bins",
+        JoinedList(joined_longest, LEAST_OF_THE_LONGEST),
+    ),
+    (
+        "mirror images, opened inside a hump",
+        JoinedDraw(joined_shapes::mirror_images, 20, LEAST_OF_MIRROR_IMAGES),
+    ),
+    (
+        "samples joined round the ring",
+        JoinedList(joined_samples, LEAST_OF_SAMPLES),
+    ),
 ];
+
+// Well below what the run without arguments has, so that another seed does not fall below by chance.
+const LEAST_OF_FLAT_HUMPS: Least = Least {
+    joined: 300,
+    again: 15,
+    divided: 100,
+    long: 10,
+};
+const LEAST_OF_SLOPING_HUMPS: Least = Least {
+    joined: 200,
+    again: 10,
+    divided: 50,
+    long: 12,
+};
+const LEAST_OF_SPIKES: Least = Least {
+    joined: 400,
+    again: 60,
+    divided: 30,
+    long: 15,
+};
+const LEAST_OF_FEW_LEVELS: Least = Least {
+    joined: 300,
+    again: 5,
+    divided: 20,
+    long: 2,
+};
+const LEAST_OF_MIRROR_IMAGES: Least = Least {
+    joined: 120,
+    again: 10,
+    divided: 25,
+    long: 5,
+};
+const LEAST_OF_SAMPLES: Least = Least {
+    joined: 200,
+    again: 50,
+    divided: 50,
+    long: 20,
+};
+const LEAST_AT_EVERY_CLOSENESS: Least = Least {
+    joined: 200,
+    again: 15,
+    divided: 100,
+    long: 0,
+};
+const LEAST_OF_THE_LONGEST: Least = Least {
+    joined: 450,
+    again: 30,
+    divided: 250,
+    long: 2,
+};
 
 impl ModesSource {
     pub fn cases(&self, random: &mut Random, count: usize) -> Vec<ModesCase> {
         match self {
-            List(list) => list(random),
+            List(list) | JoinedList(list, _) => list(random),
             Draw(shape, share) => draw(random, count * share / 100, *shape),
+            JoinedDraw(shape, share, _) => draw_joined(random, count * share / 100, *shape),
         }
     }
+
+    /// How many joins round the ring the group is to have.
+    pub fn least(&self) -> Option<&Least> {
+        match self {
+            List(_) | Draw(..) => None,
+            JoinedList(_, least) | JoinedDraw(_, _, least) => Some(least),
+        }
+    }
+}
+
+fn draw_joined(random: &mut Random, count: usize, shape: Shape) -> Vec<ModesCase> {
+    (0..count)
+        .map(|_| {
+            let bins = joined_shapes::bins(random);
+            joined(random, shape, bins)
+        })
+        .collect()
+}
+
+fn joined(random: &mut Random, shape: Shape, bins: usize) -> ModesCase {
+    let ring = shape(random, bins);
+    let closeness = joined_shapes::near_joining_closeness(random, &ring);
+    fitting(ring, closeness)
 }
 
 fn draw(random: &mut Random, count: usize, shape: Shape) -> Vec<ModesCase> {
@@ -298,4 +410,93 @@ fn around_a_bar_of_0(_: &mut Random) -> Vec<ModesCase> {
         }
     }
     cases
+}
+
+/// Mirrored and turned on, at their closeness, one below and one above.
+fn joined_samples(_: &mut Random) -> Vec<ModesCase> {
+    let mut cases = Vec::new();
+    for (closeness, ring) in JOINED_SAMPLES {
+        let mut mirrored = ring.to_vec();
+        mirrored.reverse();
+        for mut ring in [ring.to_vec(), mirrored] {
+            for _ in 0..ring.len() {
+                ring.rotate_left(1);
+                let closenesses = closeness - 1..=closeness + 1;
+                cases.extend(closenesses.map(|closeness| fitting(ring.clone(), closeness)));
+            }
+        }
+    }
+    cases
+}
+
+/// Some rings at every closeness, and for each closeness rings whose dip is just light enough there. They are as long as
+/// a ring of hues: at the least closeness a bar is above 0 from 45 bins on only.
+fn joined_every_closeness(random: &mut Random) -> Vec<ModesCase> {
+    let mut cases = Vec::new();
+    for shape in JOINED_SHAPES {
+        for bins in [18, 60].repeat(3) {
+            let ring = shape(random, bins);
+            cases.extend(closenesses::every().map(|closeness| fitting(ring.clone(), closeness)));
+        }
+        for closeness in LEAST_CLOSENESS..=MOST_CLOSENESS {
+            cases.extend((0..3).map(|_| joined_at(random, shape, closeness)));
+        }
+    }
+    cases
+}
+
+/// Of some rings of 60 bins the first whose dip is just light enough at this closeness, or else the last.
+fn joined_at(random: &mut Random, shape: Shape, closeness: i32) -> ModesCase {
+    const TRIES: usize = 400;
+    let mut ring = shape(random, 60);
+    for _ in 1..TRIES {
+        if joined_shapes::joining_closeness(&ring) == closeness {
+            break;
+        }
+        ring = shape(random, 60);
+    }
+    fitting(ring, closeness)
+}
+
+/// More of those as long as a ring of hues than of the longest, which take the reference a tenth of a second each.
+fn joined_longest(random: &mut Random) -> Vec<ModesCase> {
+    let mut cases = Vec::new();
+    for (bins, count) in [
+        (59, 120),
+        (60, 360),
+        (61, 120),
+        (MOST_BINS - 1, 24),
+        (MOST_BINS, 24),
+    ] {
+        for index in 0..count {
+            cases.push(joined(
+                random,
+                JOINED_SHAPES[index % JOINED_SHAPES.len()],
+                bins,
+            ));
+        }
+    }
+    cases
+}
+
+#[cfg(test)]
+mod tests {
+    use super::*;
+    use reference::calls::ring_modes_and_joins;
+
+    #[test]
+    fn some_rings_are_joined_round_at_every_closeness_that_is_served() {
+        let cases = joined_every_closeness(&mut Random::new(1));
+        for closeness in LEAST_CLOSENESS..=MOST_CLOSENESS {
+            let mut at_it = cases.iter().filter(|case| case.closeness == closeness);
+            let joined = at_it.any(|case| {
+                let mut list = vec![0; case.places];
+                ring_modes_and_joins(&case.histogram, closeness, &mut list)
+                    .1
+                    .all
+                    > 0
+            });
+            assert!(joined, "at {closeness}");
+        }
+    }
 }

@@ -39,8 +39,11 @@ pub const TEXTS: [(&str, TextSource); 13] = [
     ("any bytes", Draw(any_bytes, 10)),
 ];
 
+/// Numbers of grounds, drawn for this count.
+pub type Numbers = fn(&mut Random, usize) -> Vec<u32>;
+
 /// The numbers that have a line, drawn ones in the same shares as texts.
-pub const GROUNDS: [(&str, fn(&mut Random, usize) -> Vec<u32>); 2] =
+pub const GROUNDS: [(&str, Numbers); 2] =
     [("next to each limit", limits), ("any number", any_numbers)];
 
 impl TextSource {

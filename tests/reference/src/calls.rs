@@ -2,6 +2,7 @@
 
 use crate::cards::{self, Entry, Pixel};
 use crate::measures::{self, Measures};
+use crate::rings::RoundJoins;
 use crate::test::{self, Verdict};
 use crate::{lines, pooling, rings, swatches};
 
@@ -102,14 +103,29 @@ pub fn line_modes(histogram: &[u32], closeness: i32, list: &mut [u32]) -> ModesA
 
 /// The list's order is open; this one is that of the modes, from the opening on.
 pub fn ring_modes(histogram: &[u32], closeness: i32, list: &mut [u32]) -> ModesAnswer {
-    modes(histogram, closeness, list, rings::separators)
+    ring_modes_and_joins(histogram, closeness, list).0
+}
+
+/// The same, with the joins that were made round the ring: none, if the call is turned down.
+pub fn ring_modes_and_joins(
+    histogram: &[u32],
+    closeness: i32,
+    list: &mut [u32],
+) -> (ModesAnswer, RoundJoins) {
+    let mut joins = RoundJoins::default();
+    let answer = modes(histogram, closeness, list, |counts, closeness| {
+        let ring = rings::finished(counts, closeness);
+        joins = ring.joins;
+        ring.separators()
+    });
+    (answer, joins)
 }
 
 fn modes(
     histogram: &[u32],
     closeness: i32,
     list: &mut [u32],
-    separators: fn(&[u64], i32) -> Vec<usize>,
+    separators: impl FnOnce(&[u64], i32) -> Vec<usize>,
 ) -> ModesAnswer {
     let number = first_ground(histogram, Some(closeness), Some(list.len()));
     if number != 0 {
@@ -129,13 +145,22 @@ fn modes(
 }
 
 pub fn card(bytes: &[u8], closeness: i32, labels: &mut [u8]) -> CardAnswer {
+    card_and_hue_joins(bytes, closeness, labels).0
+}
+
+/// The same, with the joins that were made round the ring of hues: none, if the call is turned down before.
+pub fn card_and_hue_joins(
+    bytes: &[u8],
+    closeness: i32,
+    labels: &mut [u8],
+) -> (CardAnswer, RoundJoins) {
     let mut answer = CardAnswer {
         number: first_card_ground(bytes, closeness, labels.len()),
         len: 0,
         entries: [Entry::default(); MOST_ENTRIES],
     };
     if answer.number != 0 {
-        return answer;
+        return (answer, RoundJoins::default());
     }
     let pixels: Vec<Pixel> = bytes
         .chunks(3)
@@ -144,14 +169,14 @@ pub fn card(bytes: &[u8], closeness: i32, labels: &mut [u8]) -> CardAnswer {
     let card = cards::card(&pixels, closeness);
     if card.entries.len() > MOST_ENTRIES {
         answer.number = 11;
-        return answer;
+        return (answer, card.hue_joins);
     }
     answer.len = card.entries.len() as u32;
     answer.entries[..card.entries.len()].copy_from_slice(&card.entries);
     for (place, &label) in labels.iter_mut().zip(&card.labels) {
         *place = label as u8;
     }
-    answer
+    (answer, card.hue_joins)
 }
 
 /// The card of a swatch, both as text.

@@ -2,6 +2,7 @@
 //! level. The keys that occur, sorted, are the entries.
 
 use crate::measures::{measures, Measures};
+use crate::rings::RoundJoins;
 use crate::{lines, rings};
 use std::collections::{BTreeMap, BTreeSet};
 
@@ -20,11 +21,13 @@ pub struct Entry {
     pub count: u32,
 }
 
-/// The card as defined, without a limit: its entries, and for each pixel the number of its entry.
+/// The card as defined, without a limit: its entries, and for each pixel the number of its entry; and the joins that were
+/// made round the ring of hues.
 #[derive(Clone, Debug, PartialEq, Eq)]
 pub struct Card {
     pub entries: Vec<Entry>,
     pub labels: Vec<usize>,
+    pub hue_joins: RoundJoins,
 }
 
 pub const GREY: usize = 0;
@@ -40,15 +43,15 @@ struct Level {
     place: usize,
     bins: usize,
     bin: fn(&Measures) -> u8,
-    /// Where the modes of a histogram start, by number.
-    starts: fn(&[u64], i32) -> Vec<usize>,
+    /// Where the modes of a histogram start, by number, and the joins that were made round it.
+    starts: fn(&[u64], i32) -> (Vec<usize>, RoundJoins),
 }
 
 const HUE: Level = Level {
     place: 1,
     bins: 60,
     bin: |measures| measures.hue,
-    starts: rings::separators,
+    starts: ring_starts,
 };
 const SATURATION: Level = Level {
     place: 2,
@@ -63,13 +66,20 @@ const INTENSITY: Level = Level {
     starts: line_starts,
 };
 
-fn line_starts(counts: &[u64], closeness: i32) -> Vec<usize> {
+fn ring_starts(counts: &[u64], closeness: i32) -> (Vec<usize>, RoundJoins) {
+    let ring = rings::finished(counts, closeness);
+    (ring.separators(), ring.joins)
+}
+
+/// Nothing is joined round a line.
+fn line_starts(counts: &[u64], closeness: i32) -> (Vec<usize>, RoundJoins) {
     let modes = lines::modes(counts, closeness);
-    modes.iter().map(|mode| mode.start).collect()
+    let starts = modes.iter().map(|mode| mode.start).collect();
+    (starts, RoundJoins::default())
 }
 
 pub fn card(pixels: &[Pixel], closeness: i32) -> Card {
-    let keys = keys(pixels, closeness);
+    let (keys, hue_joins) = keys(pixels, closeness);
     let all: Vec<Key> = BTreeSet::from_iter(&keys).into_iter().copied().collect();
     let number = |key: &Key| all.binary_search(key).expect("it is one of them");
     let labels: Vec<usize> = keys.iter().map(number).collect();
@@ -81,23 +91,28 @@ pub fn card(pixels: &[Pixel], closeness: i32) -> Card {
     Card {
         entries: entries.collect(),
         labels,
+        hue_joins,
     }
 }
 
 /// The key of each pixel: greys divided by intensity; colours by hue, each of those sets by saturation, each of those
-/// by intensity.
-fn keys(pixels: &[Pixel], closeness: i32) -> Vec<Key> {
+/// by intensity. And the joins of the hues, which are divided once, if there are any.
+fn keys(pixels: &[Pixel], closeness: i32) -> (Vec<Key>, RoundJoins) {
     let measured: Vec<Measures> = pixels.iter().map(|&[r, g, b]| measures(r, g, b)).collect();
     let kind = |measures: &Measures| if measures.grey { GREY } else { COLOUR };
     let mut keys: Vec<Key> = measured.iter().map(|m| [kind(m), 0, 0, 0]).collect();
+    let mut hue_joins = RoundJoins::default();
     for (level, of_greys) in [(HUE, false), (SATURATION, false), (INTENSITY, true)] {
         for (key, members) in sets(&keys) {
             if key[0] == COLOUR || of_greys {
-                divide(&level, closeness, &measured, &members, &mut keys);
+                let joins = divide(&level, closeness, &measured, &members, &mut keys);
+                if level.place == HUE.place {
+                    hue_joins = joins;
+                }
             }
         }
     }
-    keys
+    (keys, hue_joins)
 }
 
 /// The pixels of each key, by their places.
@@ -109,20 +124,21 @@ fn sets(keys: &[Key]) -> BTreeMap<Key, Vec<usize>> {
     sets
 }
 
-/// Puts the number of its mode into the key of each member, from the histogram of the members alone.
+/// Puts the number of its mode into the key of each member, from the histogram of the members alone. The joins made
+/// round that histogram are handed back.
 fn divide(
     level: &Level,
     closeness: i32,
     measured: &[Measures],
     members: &[usize],
     keys: &mut [Key],
-) {
+) -> RoundJoins {
     let bin = |place: usize| usize::from((level.bin)(&measured[place]));
     let mut counts = vec![0; level.bins];
     for &place in members {
         counts[bin(place)] += 1;
     }
-    let starts = (level.starts)(&counts, closeness);
+    let (starts, joins) = (level.starts)(&counts, closeness);
     let mut met = vec![false; starts.len()];
     for &place in members {
         let mode = mode_of(bin(place), &starts, level.bins);
@@ -132,6 +148,7 @@ fn divide(
     // So that the keys that occur are all the entries there are. Beside each valley a first segment has a higher bin of
     // its own, and a mode has the bins of all the segments that were joined to it, on a ring past the opening too.
     assert!(met.iter().all(|&met| met), "a mode without a pixel");
+    joins
 }
 
 /// The mode that a bin lies in: back from the bin, on a ring past bin 0 too, to the first start that is met. A ring's

@@ -23,6 +23,23 @@ pub struct Mode {
 pub struct RoundJoins {
     pub all: usize,
     pub past_the_opening: usize,
+    /// How many modes the longest of the runs had that were joined, 0 if none was.
+    pub longest: usize,
+}
+
+/// A ring with nothing left to join: its modes, mode 0 being the first to start at the opening or after it, and the
+/// joins that it took round the ring.
+#[derive(Clone, Debug, PartialEq, Eq)]
+pub struct Finished {
+    pub modes: Vec<Mode>,
+    pub joins: RoundJoins,
+}
+
+impl Finished {
+    /// Where the modes start, by number.
+    pub fn separators(&self) -> Vec<usize> {
+        self.modes.iter().map(|mode| mode.separator).collect()
+    }
 }
 
 /// Modes side by side, by the number of the first. The last mode is followed by mode 0.
@@ -41,29 +58,30 @@ struct Join {
 
 /// Where the modes start, by number.
 pub fn separators(counts: &[u64], closeness: i32) -> Vec<usize> {
-    let modes = modes(counts, closeness);
-    modes.iter().map(|mode| mode.separator).collect()
+    finished(counts, closeness).separators()
 }
 
 /// The modes of a ring of two bins or more. Mode 0 is the first to start at the opening or after it.
 pub fn modes(counts: &[u64], closeness: i32) -> Vec<Mode> {
-    finished(counts, closeness).0
+    finished(counts, closeness).modes
 }
 
 /// How often modes of the opened line were joined round the ring.
 pub fn joins(counts: &[u64], closeness: i32) -> RoundJoins {
-    finished(counts, closeness).1
+    finished(counts, closeness).joins
 }
 
-fn finished(counts: &[u64], closeness: i32) -> (Vec<Mode>, RoundJoins) {
+/// Modes and joins at once, for whoever wants both: finding them takes long.
+pub fn finished(counts: &[u64], closeness: i32) -> Finished {
     let mut modes = modes_of_line(counts, closeness);
     let mut joins = RoundJoins::default();
     while let Some((run, left)) = next_join(counts, closeness, &modes) {
         joins.all += 1;
         joins.past_the_opening += usize::from(is_past_the_opening(counts, &modes, run));
+        joins.longest = joins.longest.max(run.len);
         modes = joined(counts, &modes, run, left);
     }
-    (modes, joins)
+    Finished { modes, joins }
 }
 
 /// What the ring starts from. The line's repeated end is as low as any bin, so it is no mode's peak.
@@ -213,7 +231,7 @@ mod tests {
         for closeness in CLOSENESSES {
             let mut joined = 0;
             for counts in small_rings() {
-                let (modes, joins) = finished(&counts, closeness);
+                let Finished { modes, joins } = finished(&counts, closeness);
                 visit(&counts, closeness, &modes);
                 joined += joins.all;
             }
@@ -468,6 +486,14 @@ mod tests {
             modes: &[(9, 8)],
         }
         .check_turned();
+    }
+
+    #[test]
+    fn the_longest_run_that_was_joined_is_told() {
+        let longest = |counts: &[u64], closeness| joins(counts, closeness).longest;
+        assert_eq!(longest(&[0, 20, 0, 20], 0), 0);
+        assert_eq!(longest(&[4, 0, 4, 0, 9, 0, 4, 0, 0, 0], -1), 2);
+        assert_eq!(longest(&[1, 0, 1, 0, 6, 0], -3), 3);
     }
 
     #[test]

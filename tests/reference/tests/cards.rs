@@ -118,6 +118,7 @@ fn hues_number_from_the_opening() {
         .map(|entry| (entry.hue, [entry.red, entry.green, entry.blue]))
         .collect();
     assert_eq!(found, [(0, green), (1, BLUE), (2, RED)]);
+    assert_eq!(card.hue_joins.all, 0);
     assert_eq!(card.labels[0], 2);
     assert_eq!(card.labels[119], 0);
 }
@@ -151,6 +152,7 @@ fn a_hue_mode_goes_on_past_the_opening() {
     let card = card(&pixels, 0);
     let hues = card.labels.iter().map(|&label| card.entries[label].hue);
     assert!(hues.eq([vec![1; 32], vec![0; 80]].concat()));
+    assert_eq!(card.hue_joins.all, 1);
 }
 
 /// One hue, two saturations, the second with two intensities: three entries in this order.

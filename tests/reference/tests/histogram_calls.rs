@@ -149,3 +149,16 @@ fn a_ring_of_two_bins_counts_its_lowest_twice() {
     assert_eq!(ring_modes(&[32_768, 32_768], 0, &mut list), one);
     assert_eq!(list, [0, 9]);
 }
+
+/// The two calls answer alike; the joins are told of what is served only.
+#[test]
+fn a_ring_is_told_with_its_joins() {
+    for (closeness, number, joins) in [(-1, 0, 3), (MOST_CLOSENESS + 1, 8, 0)] {
+        let histogram = [4, 0, 4, 0, 9, 0, 4, 0, 0, 0];
+        let (mut list, mut same_list) = ([99; 10], [99; 10]);
+        let (answer, round) = ring_modes_and_joins(&histogram, closeness, &mut list);
+        assert_eq!((answer.number, round.all), (number, joins));
+        assert_eq!(ring_modes(&histogram, closeness, &mut same_list), answer);
+        assert_eq!(list, same_list);
+    }
+}

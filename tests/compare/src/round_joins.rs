@@ -1,0 +1,136 @@
+//! How many rings were joined round the ring, and how many there have to be: a group of rings that are made for such
+//! joins compares nothing of them once it has none.
+
+use crate::comparison::Failure;
+use reference::rings::RoundJoins;
+
+/// Rings, or hue rings of cards, by their joins round the ring.
+#[derive(Default)]
+pub struct RoundTally {
+    pub rings: u64,
+    pub joined: u64,
+    /// Joined more than once.
+    pub again: u64,
+    /// Joined, with two modes or more left.
+    pub divided: u64,
+    /// With a run of three modes or more that was joined.
+    pub long: u64,
+}
+
+impl RoundTally {
+    pub fn count(&mut self, joins: RoundJoins, modes_left: usize) {
+        self.rings += 1;
+        self.joined += u64::from(joins.all > 0);
+        self.again += u64::from(joins.all > 1);
+        self.divided += u64::from(joins.all > 0 && modes_left > 1);
+        self.long += u64::from(joins.longest > 2);
+    }
+
+    pub fn told(&self) -> String {
+        format!(
+            "{} joined round the ring, {} of them more than once, {} into several modes, {} by runs of 3 or more",
+            self.joined, self.again, self.divided, self.long
+        )
+    }
+}
+
+/// The least numbers of a group, each in thousandths of its rings.
+pub struct Least {
+    pub joined: u64,
+    pub again: u64,
+    pub divided: u64,
+    pub long: u64,
+}
+
+/// Of fewer rings the shares can be small by chance, so nothing is asked of them.
+pub const FEWEST_JUDGED: u64 = 500;
+
+impl Least {
+    pub fn check(&self, tally: &RoundTally) -> Result<(), Failure> {
+        if tally.rings < FEWEST_JUDGED {
+            return Ok(());
+        }
+        for (what, least, found) in [
+            ("joined round the ring", self.joined, tally.joined),
+            ("joined more than once", self.again, tally.again),
+            ("joined into several modes", self.divided, tally.divided),
+            ("joined by runs of 3 or more", self.long, tally.long),
+        ] {
+            let least = least * tally.rings / 1000;
+            if found < least {
+                return Err(Failure::TooFew(format!(
+                    "{what}: {found} of {} rings, but {least} at least are to be compared",
+                    tally.rings
+                )));
+            }
+        }
+        Ok(())
+    }
+}
+
+#[cfg(test)]
+mod tests {
+    use super::*;
+
+    const LEAST: Least = Least {
+        joined: 500,
+        again: 200,
+        divided: 100,
+        long: 2,
+    };
+
+    fn tally(joined: u64, again: u64, divided: u64, long: u64) -> RoundTally {
+        RoundTally {
+            rings: 1000,
+            joined,
+            again,
+            divided,
+            long,
+        }
+    }
+
+    #[test]
+    fn each_number_can_be_too_small() {
+        assert!(LEAST.check(&tally(500, 200, 100, 2)).is_ok());
+        for too_few in [
+            tally(499, 200, 100, 2),
+            tally(500, 199, 100, 2),
+            tally(500, 200, 99, 2),
+            tally(500, 200, 100, 1),
+        ] {
+            assert!(matches!(LEAST.check(&too_few), Err(Failure::TooFew(_))));
+        }
+    }
+
+    #[test]
+    fn few_rings_are_not_judged() {
+        for (rings, judged) in [(FEWEST_JUDGED - 1, false), (FEWEST_JUDGED, true)] {
+            let none = RoundTally {
+                rings,
+                ..RoundTally::default()
+            };
+            assert_eq!(LEAST.check(&none).is_err(), judged);
+        }
+    }
+
+    #[test]
+    fn joins_are_counted_by_kind() {
+        let mut tally = RoundTally::default();
+        for (all, longest, modes_left) in [(0, 0, 3), (1, 2, 1), (2, 3, 2)] {
+            let joins = RoundJoins {
+                all,
+                past_the_opening: all,
+                longest,
+            };
+            tally.count(joins, modes_left);
+        }
+        let RoundTally {
+            rings,
+            joined,
+            again,
+            divided,
+            long,
+        } = tally;
+        assert_eq!([rings, joined, again, divided, long], [3, 2, 1, 1, 1]);
+    }
+}
