@@ -11,7 +11,6 @@ use lib.ListN.{length, take, drop, getD}
 use lib.Seq.{paste}
 use Rattle.lists.proofs.Cases.{by-cond}
 use Rattle.lists.proofs.Shifts.{shift-before, shift-at}
-use Rattle.lists.specs.Lists.{numbers, firstThat, maybe}
 use Rattle.verdict.specs.Test.{Closeness}
 use Rattle.segmentation.specs.Segments.{Segment, segmentAt, firstSegments}
 use Rattle.segmentation.specs.Joining.{lineReader, Join, joined, join, Joins, lineJoins, joinAll, lineModes}

@@ -1,6 +1,6 @@
 -- No mode of a line or of a ring with counts is empty. Assumes nothing.
 use Prim.Native.Nat.{ℕ, suc, _+_, _-_, _%_, _≤_, _<_}
-use mathlib.Core.Path.{_≡_, refl, sym, ap, _∙_}
+use mathlib.Core.Path.{_≡_, refl, ap, _∙_}
 use mathlib.Core.Bool.{Bool, true, false, cond}
 use mathlib.Core.List.{List}
 use mathlib.Core.Option.{some}
@@ -17,7 +17,7 @@ use Rattle.verdict.specs.Test.{Closeness}
 use Rattle.segmentation.specs.Segments.{Segment, segmentAt, binAt, inMode}
 use Rattle.segmentation.specs.Joining.{Join, lineModes}
 use Rattle.segmentation.specs.Around.{nextRound, joinRound}
-use Rattle.segmentation.specs.Ring.{opening, opened, ringBin, linePlace, fromOpening, roundReader, ringModes, inArc, inRound, inRingMode}
+use Rattle.segmentation.specs.Ring.{opening, opened, ringBin, fromOpening, roundReader, ringModes, inArc, inRound, inRingMode}
 use Rattle.segmentation.specs.Inside.{modeCount}
 use Rattle.segmentation.specs.Runs.{OnRing}
 use Rattle.segmentation.proofs.Kept.{chain-ends}

@@ -1,7 +1,7 @@
 -- Every ring ends finished: what its opened line has, and each join round it keeps, holds of its modes. Its separators are all different. Assumes nothing.
-use Prim.Native.Nat.{ℕ, suc, _+_, _*_, _-_, _%_, _≤_, _<_}
+use Prim.Native.Nat.{ℕ, _+_, _*_, _-_, _%_, _≤_, _<_}
 use mathlib.Core.Path.{_≡_, refl, sym, ap, subst, _∙_}
-use mathlib.Core.Bool.{Bool, true, false, _&&_}
+use mathlib.Core.Bool.{true, false}
 use mathlib.Core.List.{List, _++_, map, map-map}
 use mathlib.Core.Option.{some}
 use native.Mathlib.Omega.{arith}

@@ -1,5 +1,5 @@
 -- The stretches of the runs that are searched lie within what is read, and are small enough to be tested: along a line, and round a ring. Assumes nothing.
-use Prim.Native.Nat.{ℕ, suc, _+_, _*_, _-_, _≤_, _<_}
+use Prim.Native.Nat.{ℕ, suc, _+_, _-_, _≤_, _<_}
 use mathlib.Core.Path.{_≡_, sym, ap, subst, _∙_}
 use mathlib.Core.Bool.{true, false}
 use mathlib.Core.List.{List, _++_}
@@ -9,12 +9,12 @@ use Rattle.lists.specs.Lists.{total, part}
 use Rattle.lists.proofs.Cases.{by-order}
 use Rattle.lists.proofs.Sums.{total-part-le}
 use Rattle.pooling.specs.Limits.{Small}
-use Rattle.segmentation.specs.Segments.{Segment, segmentAt, binAt}
+use Rattle.segmentation.specs.Segments.{Segment, segmentAt}
 use Rattle.segmentation.specs.Around.{twice}
 use Rattle.segmentation.specs.Finished.{Chain, Cut}
 use Rattle.segmentation.specs.Held.{segmentsHeld}
 use Rattle.segmentation.specs.Runs.{Within, RunInside, AllInside, OnRing}
-use Rattle.segmentation.proofs.Kept.{chain-ends, Between, between}
+use Rattle.segmentation.proofs.Kept.{chain-ends, between}
 use Rattle.segmentation.proofs.Finishing.{part-length}
 use Rattle.segmentation.proofs.Holding.{held-length, held-at}
 use Rattle.segmentation.proofs.TwoTurns.{part-once, part-turn}

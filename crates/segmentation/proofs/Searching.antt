@@ -1,30 +1,27 @@
 -- The search for the next join: how the cost of a run is chosen, and the search from left to right and over the lengths. Assumes nothing.
-use Prim.Native.Nat.{ℕ, zero, suc, _+_, _-_, _^_, _≤_, _<_}
-use mathlib.Core.Path.{_≡_, refl, sym, ap, subst, _∙_}
+use Prim.Native.Nat.{ℕ, suc, _+_, _-_, _^_, _≤_, _<_}
+use mathlib.Core.Path.{_≡_, refl, sym, subst, _∙_}
 use mathlib.Core.Bool.{Bool, true, false, cond, false≢true}
 use mathlib.Core.List.{List, map}
 use mathlib.Core.Option.{Option, none, some, Option·none-ne-some, Option·some-ne-none}
 use native.Mathlib.Numerals.{add-one}
 use native.Mathlib.Omega.{arith}
-use lib.ListN.{length, getD, length-take, length-drop}
+use lib.ListN.{getD}
 use lib.IntN.{ℤ, pos}
 use lib.Signed.{ltZ, mag, _≤ℤ_}
 use Rattle.lists.specs.Lists.{part, firstThat, numbers}
 use Rattle.lists.proofs.Cases.{by-cond}
 use Rattle.lists.proofs.Signed.{nlt-le-ℤ, lt-no, lt-le-lt}
-use Rattle.lists.proofs.Sums.{total-part-le}
 use Rattle.lists.proofs.Leasts.{leastOf, foundAmong, none-found, found-lowest}
 use Rattle.pooling.specs.Blocks.{increasing, decreasing}
 use Rattle.verdict.specs.Test.{Closeness, cost}
-use Rattle.pooling.specs.Limits.{Small}
 use Rattle.verdict.specs.Scratch.{Capped}
 use Rattle.segmentation.specs.declared.Found.{Found}
 use Rattle.segmentation.specs.Joining.{Join, Reader, lineReader, riseOf, fallOf, riseCost, fallCost, joinOf, lastStart, cheapest, nextAmong}
 use Rattle.segmentation.specs.Segments.{Segment}
-use Rattle.segmentation.specs.Finished.{Cut}
 use Rattle.segmentation.specs.Held.{segmentsHeld, joinFound}
 use Rattle.segmentation.specs.Runs.{RunBelow, joinBy, betterOf, whereBelow}
-use Rattle.segmentation.proofs.Holding.{held-length, held-at}
+use Rattle.segmentation.proofs.Holding.{held-at}
 
 -- the run that the definition has, by its two costs
 pub run-is : (e : Closeness) (h s p : List ℕ) (n i len : ℕ) → 1 ≤ len → i + len ≤ n

@@ -15,7 +15,7 @@ use Rattle.lists.proofs.Lowest.{lowest-in, lowest-le}
 use Rattle.lists.proofs.Found.{found-in, found-passes, none-passes}
 use Rattle.verdict.specs.Test.{Closeness}
 use Rattle.segmentation.specs.Segments.{Segment, segmentAt, firstSegments}
-use Rattle.segmentation.specs.Joining.{Reader, lineReader, lastIn, Join, join, riseOf, fallOf, riseCost, fallCost, joinOf, lastStart, cheapest, nextAmong, nextJoin, Joins, joinAll, lineJoins, lineModes}
+use Rattle.segmentation.specs.Joining.{Reader, lineReader, lastIn, Join, riseOf, fallOf, riseCost, fallCost, joinOf, lastStart, cheapest, nextAmong, nextJoin, Joins, joinAll, lineJoins, lineModes}
 use Rattle.segmentation.proofs.Kept.{Run, join-length}
 
 -- ---- the join that comes next: a run of two or more of the segments, with a cost below 0

@@ -1,14 +1,14 @@
 -- What is read round a ring: two turns from the opening on. A stretch a turn later is the same stretch; the opened line is its beginning. Assumes nothing.
-use Prim.Native.Nat.{ℕ, zero, suc, _+_, _*_, _-_, _%_, _≤_, _<_}
-use mathlib.Core.Path.{_≡_, refl, sym, ap, ap₂, _∙_}
+use Prim.Native.Nat.{ℕ, suc, _+_, _-_, _%_, _≤_, _<_}
+use mathlib.Core.Path.{_≡_, sym, ap, ap₂, _∙_}
 use mathlib.Core.List.{List, [], _∷_, _++_}
 use native.Mathlib.Omega.{arith}
 use native.Mathlib.Nat.{add-mod-right}
-use lib.ListN.{length, take, drop, getD, set, length-append, length-drop, List·getD-append, take-append-drop}
+use lib.ListN.{length, take, drop, set, length-append, length-drop, List·getD-append}
 use lib.Seq.{length-take-le, getD-append-add, getD-take, getD-drop, take-append-le, drop-append-le, take-append-add, drop-append-add, take-add, take-suc, ext-getD}
 use Rattle.lists.specs.Lists.{total, part, over}
 use Rattle.lists.proofs.Cases.{by-order}
-use Rattle.lists.proofs.Sums.{total-append, total-split, total-take-le, total-part-le, total-at}
+use Rattle.lists.proofs.Sums.{total-append, total-split, total-take-le}
 use Rattle.lists.proofs.Rotations.{mod-below, mod-above}
 use Rattle.lists.proofs.Buffers.{over-take}
 use Rattle.segmentation.specs.Segments.{binAt}

@@ -1,6 +1,5 @@
 -- `apply_round` meets its contract: one turn of the modes moved to the front, and the run joined in it. Assumes nothing.
-use mathlib.Core.Path.{_≡_, refl, sym, ap, _∙_}
-use mathlib.Core.List.{List}
+use mathlib.Core.Path.{refl}
 use native.Mathlib.Omega.{arith}
 use borrow.Author.Needs.{needs}
 use Rattle.segmentation.proofs.HeldTwice.{join-turn}

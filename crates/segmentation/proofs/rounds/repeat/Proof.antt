@@ -1,11 +1,9 @@
 -- `repeat` meets its contract. The loop's invariant: so many stand again, and what comes before is as it was. Assumes nothing.
 use Prim.Native.Nat.{ℕ, _+_, _-_, _≤_, _<_}
-use mathlib.Core.Path.{_≡_, refl, _∙_, ap}
+use mathlib.Core.Path.{_≡_, refl}
 use native.Mathlib.Omega.{arith}
 use lib.ListN.{length, getD, length-set}
-use lib.Seq.{getD-set-same, getD-set-other}
 use borrow.Author.Needs.{needs}
-use Rattle.lists.proofs.Cases.{by-order}
 use Rattle.segmentation.proofs.HeldTwice.{repeat-kept, repeat-again}
 use Rattle.segmentation.proofs.rounds.repeat.Statement.{statement}
 use Rattle.segmentation.proofs.rounds.repeat.Tie as tie

@@ -1,5 +1,5 @@
 -- `cheapest_below` meets its contract. The loop's invariant: what is found so far is the first of the lowest among the runs passed, where it is below 0. Assumes nothing.
-use Prim.Native.Nat.{ℕ, suc, _+_, _-_, _≤_}
+use Prim.Native.Nat.{ℕ, suc, _-_, _≤_}
 use mathlib.Core.Path.{_≡_, ap, _∙_}
 use mathlib.Core.List.{List}
 use native.Mathlib.Omega.{arith}
