@@ -11,8 +11,9 @@ use lib.ListN.{length, take, getD, length-map, List·getD-map}
 use lib.IntN.{pos}
 use lib.Signed.{ltZ, _≤ℤ_}
 use borrow.Author.Tests.{ltb-true}
-use Rattle.lists.specs.Lists.{total, part, ExactlyOne}
+use Rattle.lists.specs.Lists.{total, part, over, ExactlyOne}
 use Rattle.lists.proofs.Cases.{by-order}
+use Rattle.lists.proofs.Buffers.{over-front}
 use Rattle.lists.proofs.Connectives.{both-true}
 use Rattle.lists.proofs.Counting.{count-different}
 use Rattle.lists.proofs.Sums.{total-at, total-more}
@@ -281,3 +282,8 @@ ring-listed e h two = record { same = λ b. refl; once = count-different (ringSe
 pub ring-separators : (e : Closeness) (h : List ℕ) → ringSeparators e h ≡ map (λ (s : ℕ). (opening h + s) % length h) (map (λ (s : Segment). s .start) (ringModes e h))
 unfolding ringSeparators ringBin
 ring-separators e h = sym (map-map (λ (s : ℕ). (opening h + s) % length h) (λ (s : Segment). s .start) (ringModes e h))
+
+-- where they start, as the code lists it in the first n places
+pub ring-starts-listed : (e : Closeness) (h buffer list : List ℕ) (n : ℕ) → n ≡ length (ringModes e h) → list ≡ over (map (λ (s : Segment). s .start) (ringModes e h)) buffer
+    → take n list ≡ map (λ (s : Segment). s .start) (ringModes e h)
+ring-starts-listed e h buffer list n count is = ap (take n) is ∙ over-front _ buffer n (count ∙ sym (length-map (ringModes e h) (λ (s : Segment). s .start)))

@@ -6,12 +6,11 @@ use native.Mathlib.Omega.{arith}
 use lib.ListN.{length, take, length-map}
 use borrow.Author.Needs.{needs}
 use Rattle.lists.specs.Lists.{over}
-use Rattle.lists.proofs.Buffers.{over-front}
 use Rattle.verdict.specs.Settings.{closenessOf}
 use Rattle.segmentation.specs.Segments.{Segment}
 use Rattle.segmentation.specs.Ring.{ringModes}
 use Rattle.segmentation.proofs.RingPlaces.{opening-in}
-use Rattle.segmentation.proofs.RingModes.{ring-separators}
+use Rattle.segmentation.proofs.RingModes.{ring-separators, ring-starts-listed}
 use Rattle.segmentation.proofs.Listed.{ring-modes-most}
 use Rattle.segmentation.proofs.listing.ring_separators.Statement.{statement}
 use Rattle.segmentation.proofs.listing.ring_separators.Tie as tie
@@ -33,10 +32,7 @@ few c = let s = entry c in omega (arith, c .ring-modes .ensures .1, ring-modes-m
 -- the first places hold where the modes start
 starts : (c : tie.After-ring-modes)
     → take (c .ring-modes .result .modes) (c .ring-modes .last .1 .1 .0) ≡ map (λ (s : Segment). s .start) (ringModes (closenessOf (entry c .args .setting)) (entry c .args .h .now))
-starts c =
-    let ss = ringModes (closenessOf (entry c .args .setting)) (entry c .args .h .now) in
-    let m = c .ring-modes in
-    ap (take (m .result .modes)) (m .ensures .2) ∙ over-front _ _ (m .result .modes) (m .ensures .1 ∙ sym (length-map ss (λ (s : Segment). s .start)))
+starts c = let m = c .ring-modes in ring-starts-listed (closenessOf (entry c .args .setting)) (entry c .args .h .now) _ _ (m .result .modes) (m .ensures .1) (m .ensures .2)
 
 slice-aggregate-ring-modes : tie.Need-slice-aggregate-ring-modes
 slice-aggregate-ring-modes c = search needs
