@@ -10,7 +10,7 @@ ghost use Rattle.pooling.specs.Limits.{mostBins, mostCounts, Small};
 ghost use Rattle.pooling.specs.Best.{Pooled};
 ghost use Rattle.pooling.specs.Stack.{stackOf, sumIn, binsIn, HeldFrom};
 
-// The most bins of a stretch: those of a full turn of the largest ring, with the bin of a separator at both ends.
+// The most bins that a stretch is allowed: those of a full turn of the largest ring, with the bin of a separator at both ends.
 pub const MOST_BINS: usize = 257;
 
 // A block of neighbouring bins. Its sum and length stand for its mean, sum / len.

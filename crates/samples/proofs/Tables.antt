@@ -7,7 +7,7 @@ use Rattle.pooling.specs.Blocks.{push, blocks, fitted, placesFrom}
 use Rattle.verdict.specs.Test.{placeOf, massWithin, massAcross, fittedMass, weight, partWeight, leastCloseness, mostCloseness, bar, largestWeight, cost, stepAgainst, rejected, verdictOf}
 use Rattle.segmentation.specs.Segments.{risesAbove, isValley, firstSeparators, firstHighest, segmentsFrom, firstSegments, inMode}
 use Rattle.segmentation.specs.Joining.{riseOf, fallOf, joined, join, riseCost, fallCost, joinOf, cheapest, nextAmong, nextJoin, joinAll, lineModes, lineSeparators}
-use Rattle.segmentation.specs.Around.{twice, nextRound, turnFrom, joinRound}
+use Rattle.segmentation.specs.Around.{twice, nextRound, joinTwice, joinRound}
 use Rattle.segmentation.specs.Ring.{opening, opened, ringBin, linePlace, fromOpening, twoTurns, ringModes, ringSeparators, inRound, inRingMode}
 use Rattle.kistrovu.specs.Grounds.{firstGround, verdictNumber}
 use Rattle.samples.specs.Starred.{StarredHold}
@@ -23,9 +23,9 @@ unfolding part numbers filter countIf firstThat largestThat firstLowest largest 
 guards-hold = refl
 
 pub rings-hold : RingsHold
-unfolding part numbers filter firstThat largestThat firstLowest largest roundCount unitsPerBit floorLog rounds lg push blocks fitted placesFrom placeOf massWithin massAcross fittedMass weight partWeight bar largestWeight cost risesAbove isValley firstSeparators firstHighest segmentsFrom firstSegments riseOf fallOf joined join riseCost fallCost joinOf cheapest nextAmong nextJoin joinAll lineModes twice nextRound turnFrom joinRound opening opened ringBin linePlace fromOpening twoTurns ringModes ringSeparators inRound inRingMode
+unfolding part numbers filter firstThat largestThat firstLowest largest roundCount unitsPerBit floorLog rounds lg push blocks fitted placesFrom placeOf massWithin massAcross fittedMass weight partWeight bar largestWeight cost risesAbove isValley firstSeparators firstHighest segmentsFrom firstSegments riseOf fallOf joined join riseCost fallCost joinOf cheapest nextAmong nextJoin joinAll lineModes twice nextRound joinTwice joinRound opening opened ringBin linePlace fromOpening twoTurns ringModes ringSeparators inRound inRingMode
 rings-hold = refl
 
 pub joins-round-hold : JoinsRoundHold
-unfolding part numbers filter firstThat largestThat firstLowest largest roundCount unitsPerBit floorLog rounds lg push blocks fitted placesFrom placeOf massWithin massAcross fittedMass weight partWeight bar largestWeight cost risesAbove isValley firstSeparators firstHighest segmentsFrom firstSegments riseOf fallOf joined join riseCost fallCost joinOf cheapest nextAmong nextJoin joinAll lineModes twice nextRound turnFrom joinRound opening opened ringBin linePlace fromOpening twoTurns ringModes ringSeparators inRound inRingMode
+unfolding part numbers filter firstThat largestThat firstLowest largest roundCount unitsPerBit floorLog rounds lg push blocks fitted placesFrom placeOf massWithin massAcross fittedMass weight partWeight bar largestWeight cost risesAbove isValley firstSeparators firstHighest segmentsFrom firstSegments riseOf fallOf joined join riseCost fallCost joinOf cheapest nextAmong nextJoin joinAll lineModes twice nextRound joinTwice joinRound opening opened ringBin linePlace fromOpening twoTurns ringModes ringSeparators inRound inRingMode
 joins-round-hold = refl

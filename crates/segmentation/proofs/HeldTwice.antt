@@ -11,9 +11,9 @@ use Rattle.segmentation.specs.Segments.{Segment, segmentAt}
 use Rattle.segmentation.specs.Joining.{Join, joined, join}
 use Rattle.segmentation.specs.Held.{segmentsHeld}
 use Rattle.segmentation.proofs.Holding.{held-length, held-at}
-use Rattle.segmentation.specs.Around.{later, twice, turnFrom, startingAt, joinRound}
+use Rattle.segmentation.specs.Around.{later, twice, startingAt, joinTwice, joinRound}
 use Rattle.segmentation.specs.Finished.{RingCut}
-use Rattle.segmentation.specs.Runs.{EachTo, Repeated, joinTwice}
+use Rattle.segmentation.specs.Runs.{EachTo, Repeated}
 use Rattle.segmentation.proofs.Kept.{chain-ends, chain-grows}
 use Rattle.segmentation.proofs.Applied.{same-segment, held-same}
 use Rattle.segmentation.proofs.Turned.{twice-length, twice-first, twice-later}
@@ -129,7 +129,7 @@ join-turn s p t q n k j m a b c et eq ek mf ml mr ss held =
     ∙ ap (λ (z : ℕ). join (take n (drop z (segmentsHeld s p 0 (n + n)))) (startingAt (j .first - z) j)) ek
 
 pub joined-round : (all : List Segment) (n bins : ℕ) (ss : List Segment) (j : Join) → all ≡ twice bins ss → n ≡ length ss → joinTwice all n j ≡ joinRound bins ss j
-unfolding joinTwice joinRound turnFrom
+unfolding joinRound
 joined-round all n bins ss j held count = rw (held, count) refl
 
 -- ---- the modes of a ring, as two lists hold them

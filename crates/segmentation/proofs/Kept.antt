@@ -181,21 +181,6 @@ module _ (ss : List Segment) (c : Chain ss) where
   pub chain-rises : (a b : ℕ) → a < b → b < length ss → segmentAt ss a .start < segmentAt ss b .start
   chain-rises a b l k = omega (arith, c .ascending a (omega arith), c .adjacent a (omega arith), chain-starts (suc a) b l k)
 
--- ---- the separators of a cut ascend, and a run of two or more has two bins or more in its rise and in its fall
-module _ (bins : ℕ) (ss : List Segment) (c : Cut bins ss) where
-  pub starts-ascend : (a b : ℕ) → a ≤ b → b < length ss → segmentAt ss a .start ≤ segmentAt ss b .start
-  starts-ascend = chain-starts ss (c .chain)
-
-  pub ends-ascend : (a b : ℕ) → a ≤ b → b < length ss → segmentAt ss a .end ≤ segmentAt ss b .end
-  ends-ascend = chain-ends ss (c .chain)
-
-  pub run-bins : Inside ss → (i n : ℕ) → 2 ≤ n → i + n ≤ length ss
-      → (segmentAt ss i .start < lastIn ss i n .peak) × (segmentAt ss i .peak < lastIn ss i n .end)
-  run-bins inside i n a b = (
-    omega (arith, starts-ascend i (i + n - 1) (omega arith) (omega arith), inside .afterStart (i + n - 1) (omega arith) (omega arith)),
-    omega (arith, ends-ascend i (i + n - 1) (omega arith) (omega arith), inside .beforeEnd i (omega arith)),
-  )
-
 -- ---- what a join keeps
 -- s is the run of the segments ss from number first to number last
 record RunOf (ss : List Segment) (s : Segment) (first last : ℕ) : Type 0 where

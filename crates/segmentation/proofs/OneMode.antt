@@ -13,7 +13,7 @@ use Rattle.lists.proofs.Connectives.{both-true}
 use Rattle.lists.proofs.LargestThat.{largest-that-le, largest-that-passes, largest-that-above}
 use Rattle.segmentation.specs.Segments.{Segment, segmentAt, inMode}
 use Rattle.segmentation.specs.Finished.{Cut}
-use Rattle.segmentation.proofs.Kept.{starts-ascend}
+use Rattle.segmentation.proofs.Kept.{chain-starts}
 
 -- ---- the test by what it says
 module _ (ss : List Segment) (m b : ℕ) where
@@ -74,7 +74,7 @@ module _ (bins : ℕ) (ss : List Segment) (c : Cut bins ss) (b : ℕ) (l : b < b
               arith,
               mode-before ss m b t (omega arith),
               c .chain .adjacent m (omega arith),
-              starts-ascend bins ss c (suc m) mode i inside,
+              chain-starts ss (c .chain) (suc m) mode i inside,
             )))
             (λ i. omega arith);
       }

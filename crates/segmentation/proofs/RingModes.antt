@@ -18,7 +18,8 @@ use Rattle.lists.proofs.Connectives.{both-true}
 use Rattle.lists.proofs.Counting.{count-different}
 use Rattle.lists.proofs.Sums.{total-at, total-more}
 use Rattle.lists.proofs.Rotations.{mod-below}
-use Rattle.pooling.specs.Blocks.{Direction}
+use Rattle.pooling.specs.Blocks.{Direction, increasing, decreasing}
+use Rattle.pooling.specs.Limits.{mostRingBins, mostRingCounts}
 use Rattle.verdict.specs.Test.{Closeness}
 use Rattle.verdict.specs.Exactness.{VerdictSound}
 use Rattle.verdict.proofs.Sound.{verdict-sound}
@@ -36,6 +37,7 @@ use Rattle.segmentation.proofs.RingPlaces.{opening-in, opening-lowest, 
 use Rattle.segmentation.proofs.TwoTurns.{opening-length, opening-total, opening-bins, turns-length, turns-bins, opened-part, part-later, part-once, part-turn}
 use Rattle.segmentation.proofs.RoundKept.{RoundRun, round-of, round-run, round-below, ring-shortens, on-ring-kept, round-humps}
 use Rattle.segmentation.proofs.RoundOne.{round-one}
+use Rattle.segmentation.proofs.Turned.{twice-length, twice-first, twice-chain, round-end}
 
 -- ---- a separator's bin holds at most half of the ring's counts: it is the lowest bin, or below its neighbour
 abbrev Low : List ℕ → ℕ → Type 0
@@ -222,7 +224,7 @@ ring-one-kept e h l =
     joins-none (ringJoins e (roundReader h) (length h)) (length ss) ss (one-joins-none e (roundReader h) (twice (length h) ss) true (length ss) l)
 
 -- ---- behind every verdict
-module _ (e : Closeness) (w : Direction) (h : List ℕ) (two : 2 ≤ length h) (bins : length h ≤ 256) (counts : total h ≤ 65536) where
+module _ (e : Closeness) (w : Direction) (h : List ℕ) (two : 2 ≤ length h) (bins : length h ≤ mostRingBins) (counts : total h ≤ mostRingCounts) where
   once-sound : (i j : ℕ) → i ≤ j → j < i + length h → j < length h + length h → VerdictSound e w (roundReader h i j)
   unfolding twoTurns
   once-sound i j a b c =
@@ -242,6 +244,35 @@ module _ (e : Closeness) (w : Direction) (h : List ℕ) (two : 2 ≤ length h) (
       (omega (arith, part-length i (i + length h) (twoTurns h) (omega arith) (omega (arith, turns-length h n))))
       (omega (arith, ap (λ (z : ℕ). total (part i (i + z) (turn ++ turn))) k, part-turn turn i (omega arith), opening-total h))
 
+  -- every stretch between a separator and that separator a turn later
+  within-sound : (m : ℕ) → m < length (ringModes e h) → (i j : ℕ) → segmentAt (ringModes e h) m .start ≤ i → i ≤ j → j ≤ segmentAt (ringModes e h) m .start + length h
+      → VerdictSound e w (roundReader h i j)
+  within-sound m l i j a b c =
+      let on = ring-on-ring h two e in
+      let s = segmentAt (ringModes e h) m .start in
+      let first = on .cut .firstTurn m l in
+      by-order j (i + length h)
+      (λ u. once-sound i j b u (omega arith))
+      (λ u.
+      let from : i ≡ s = omega arith in
+      let to : j ≡ s + length h = omega arith in
+      subst (λ (z : ℕ). VerdictSound e w (roundReader h z j)) (sym from) (subst (λ (z : ℕ). VerdictSound e w (roundReader h s z)) (sym to) (turn-sound s first (on .low m l))))
+
+-- the two stretches of a run lie there
+run-sound : (e : Closeness) (h : List ℕ) → 2 ≤ length h → length h ≤ mostRingBins → total h ≤ mostRingCounts → (i n : ℕ) → i < length (ringModes e h) → 1 ≤ n → n ≤ length (ringModes e h)
+    → VerdictSound e increasing (riseOf (roundReader h) (twice (length h) (ringModes e h)) i n) × VerdictSound e decreasing (fallOf (roundReader h) (twice (length h) (ringModes e h)) i n)
+unfolding riseOf fallOf
+run-sound e h two bins counts i n here some-modes all =
+    let ss = ringModes e h in
+    let c = ring-cut h two e in
+    let both = twice (length h) ss in
+    let b = between both (twice-chain c) i n some-modes (omega (arith, twice-length (length h) ss)) in
+    let start = ap (λ (s : Segment). s .start) (twice-first (length h) ss i here) in
+    let last = round-end c i n here some-modes all in (
+      within-sound e increasing h two bins counts i here (segmentAt both i .start) (lastIn both i n .peak) (omega arith) (b .riseFrom) (omega (arith, b .riseTo)),
+      within-sound e decreasing h two bins counts i here (segmentAt both i .peak) (lastIn both i n .end) (omega (arith, b .fallFrom)) (b .fallTo) last,
+    )
+
 pub ring-finished : RingAlwaysFinished
 ring-finished e h two bins counts =
     let n : 1 ≤ length h = omega arith in
@@ -257,6 +288,7 @@ ring-finished e h two bins counts =
       place = λ b k. (place-in h n b, place-bin h n b k);
       finished = ring-finished-round h two e;
       oneMode = λ b k. ring-one-mode h two e b;
+      runs = run-sound e h two bins counts;
       verdicts = λ w. once-sound e w h two bins counts;
       fullTurns = λ w i l low. turn-sound e w h two bins counts i l (omega (arith, low, opening-bins h n i l, opening-total h));
       low = λ m l. omega (arith, on .low m l, opening-bins h n (segmentAt (ringModes e h) m .start) (on .cut .firstTurn m l), opening-total h);

@@ -7,14 +7,13 @@ use native.Mathlib.Omega.{arith}
 use native.Mathlib.Nat.{mod-lt}
 use lib.Dec.{leb→le}
 use lib.IntN.{pos}
-use lib.ListN.{length, take, set}
+use lib.ListN.{length}
 use borrow.Author.Tests.{ltb-true}
-use Rattle.lists.specs.Lists.{total, over}
+use Rattle.lists.specs.Lists.{total}
 use Rattle.lists.proofs.Cases.{by-order}
 use Rattle.lists.proofs.Lowest.{lowest-in, lowest-le, lowest-first}
 use Rattle.lists.proofs.Rotations.{mod-below, mod-above, opened-length, opened-at, opened-total}
-use Rattle.lists.proofs.Buffers.{over-take}
-use Rattle.pooling.specs.Limits.{Small}
+use Rattle.pooling.specs.Limits.{mostRingBins, mostRingCounts, Small}
 use Rattle.segmentation.specs.Segments.{binAt}
 use Rattle.segmentation.specs.Ring.{opening, opened, ringBin, linePlace}
 
@@ -53,16 +52,8 @@ ring-total-bound h n = omega (arith, ring-total h (omega arith), opening-lowest 
     first-two (x ∷ []) n = absurd (omega arith)
     first-two (x ∷ y ∷ h) n = omega arith
 
-pub ring-small : (h : List ℕ) → 2 ≤ length h → length h ≤ 256 → total h ≤ 65536 → Small (opened h)
+pub ring-small : (h : List ℕ) → 2 ≤ length h → length h ≤ mostRingBins → total h ≤ mostRingCounts → Small (opened h)
 ring-small h n l t = record { bins = omega (arith, ring-length h (omega arith)); counts = omega (arith, ring-total-bound h n) }
-
--- the line in the first places of a buffer, one bin more
-pub ring-more : (h buffer : List ℕ) (i : ℕ) → 1 ≤ length h → i ≤ length h → i < length buffer
-    → set (over (take i (opened h)) buffer) i (binAt h ((opening h + i) % length h)) ≡ over (take (i + 1) (opened h)) buffer
-unfolding ringBin
-ring-more h buffer i n l k =
-    ap (λ (v : ℕ). set (over (take i (opened h)) buffer) i v) (sym (ring-bins h n i l))
-    ∙ over-take (opened h) buffer 0 i (omega (arith, ring-length h n)) k
 
 -- ---- the ring's numbers and the line's: each way back
 module _ (h : List ℕ) (n : 1 ≤ length h) where

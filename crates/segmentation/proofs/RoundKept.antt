@@ -14,12 +14,12 @@ use Rattle.lists.proofs.Signed.{lt-no}
 use Rattle.verdict.specs.Test.{Closeness}
 use Rattle.segmentation.specs.Segments.{Segment, segmentAt, binAt}
 use Rattle.segmentation.specs.Joining.{Reader, Join, riseOf, fallOf, joined, join, riseCost, fallCost, joinOf, joinAll}
-use Rattle.segmentation.specs.Around.{later, twice, turnFrom, nextRound, passed, startingAt, joinRound, ringJoins}
+use Rattle.segmentation.specs.Around.{later, twice, nextRound, startingAt, joinTwice, joinRound, ringJoins}
 use Rattle.segmentation.specs.Finished.{SingleHump, RingCut}
 use Rattle.segmentation.specs.Runs.{OnRing, NoneAmong}
 use Rattle.segmentation.proofs.Kept.{Run, chain-ends, join-length, join-before, join-here, join-after, join-first, join-last, join-chain, Hump, hump-at, at-hump, join-humps}
 use Rattle.segmentation.proofs.Settled.{Chosen, chosen, chosen-below, run-elsewhere, one-joins-none, Shortens}
-use Rattle.segmentation.proofs.Turned.{twice-first, turn-length, turn-at, turn-chain, turn-first, turn-last, in-turn, ends-in-turn}
+use Rattle.segmentation.proofs.Turned.{passed, turnFrom, twice-first, turn-length, turn-at, turn-chain, turn-first, turn-last, in-turn, ends-in-turn}
 
 -- j is a run of two or more of the modes ss, from any of them on
 pub record RoundRun (ss : List Segment) (j : Join) : Type 0 where
@@ -42,12 +42,12 @@ module _ (bins : ℕ) (ss : List Segment) (j : Join) (v : RoundRun ss j) where
   moved-run = record { two = v .two; within = omega (arith, v .all, v .starts, long) }
 
   pub round-length : length (joinRound bins ss j) + j .len ≡ suc (length ss)
-  unfolding joinRound
+  unfolding joinRound joinTwice turnFrom
   round-length = omega (arith, join-length _ _ moved-run, long)
 
   -- the modes before the run
   pub before-run : (m : ℕ) → m < j .first - passed ss j → segmentAt (joinRound bins ss j) m ≡ segmentAt ss (passed ss j + m)
-  unfolding joinRound
+  unfolding joinRound joinTwice turnFrom
   before-run m l =
       let here : passed ss j + m < length ss = omega (arith, v .starts, past-first) in
       join-before (turnFrom (passed ss j) bins ss) (startingAt (j .first - passed ss j) j) moved-run m l
@@ -96,7 +96,7 @@ module _ {bins : ℕ} {ss : List Segment} (c : RingCut bins ss) (j : Join) (v : 
   -- each mode left has the start of a mode, and ends where that one ended or later
   pub round-arcs : (m : ℕ) → m < length (joinRound bins ss j)
       → (k : ℕ) × (k < length ss) × (segmentAt (joinRound bins ss j) m .start ≡ segmentAt ss k .start) × (segmentAt ss k .end ≤ segmentAt (joinRound bins ss j) m .end)
-  unfolding joinRound joined
+  unfolding joinRound joinTwice turnFrom joined
   round-arcs m l =
       let f = j .first - passed ss j in
       let g = past-first bins ss j v in
@@ -125,7 +125,7 @@ module _ {bins : ℕ} {ss : List Segment} (c : RingCut bins ss) (j : Join) (v : 
   round-starts P was m l = let r = round-arcs m l in subst P (sym (r .2)) (was (r .0) (r .1))
 
   pub round-cut : RingCut bins (joinRound bins ss j)
-  unfolding joinRound joined
+  unfolding joinRound joinTwice turnFrom joined
   round-cut =
       let d = turn-chain c past (past-in bins ss j v) in
       record {
@@ -172,7 +172,7 @@ module _ (e : Closeness) (read : Reader) where
 
       pub round-humps : (i n : ℕ) (v : RoundRun ss (joinOf e read (twice bins ss) i n)) → ltZ (joinOf e read (twice bins ss) i n .cost) (pos 0) ≡ true
           → (m : ℕ) → m < length (joinRound bins ss (joinOf e read (twice bins ss) i n)) → SingleHump e read (joinRound bins ss (joinOf e read (twice bins ss) i n)) m
-      unfolding joinRound joinOf
+      unfolding joinRound joinTwice turnFrom joinOf
       round-humps i n v below =
           let j = joinOf e read (twice bins ss) i n in
           let k = passed ss j in

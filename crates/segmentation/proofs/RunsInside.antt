@@ -8,7 +8,7 @@ use lib.ListN.{length, getD, length-append, length-take, length-drop}
 use Rattle.lists.specs.Lists.{total, part}
 use Rattle.lists.proofs.Cases.{by-order}
 use Rattle.lists.proofs.Sums.{total-part-le}
-use Rattle.pooling.specs.Limits.{Small}
+use Rattle.pooling.specs.Limits.{mostRingBins, mostRingCounts, Small}
 use Rattle.segmentation.specs.Segments.{Segment, segmentAt}
 use Rattle.segmentation.specs.Around.{twice}
 use Rattle.segmentation.specs.Finished.{Chain, Cut}
@@ -70,7 +70,7 @@ line-inside h s p n small cut len two all i l =
     run-inside s p n (cut .chain) i len (omega arith) fit h (λ a b x y z. record { ends = (y, omega arith); small = part-small a b h y small })
 
 -- ---- a stretch of a ring, within a turn from a separator: a full turn has the bin of the separator twice
-module _ (turn : List ℕ) (few : length turn ≤ 256) (sum : total turn ≤ 65536) (ss : List Segment) (on : OnRing (length turn) turn ss) where
+module _ (turn : List ℕ) (few : length turn ≤ mostRingBins) (sum : total turn ≤ mostRingCounts) (ss : List Segment) (on : OnRing (length turn) turn ss) where
   turn-within : (m : ℕ) → m < length ss → (i j : ℕ) → segmentAt ss m .start ≤ i → i ≤ j → j ≤ segmentAt ss m .start + length turn → Within (turn ++ turn) i j
   turn-within m l i j a b d =
       let s = segmentAt ss m .start in

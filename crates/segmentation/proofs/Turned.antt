@@ -3,18 +3,26 @@ use Prim.Native.Nat.{ℕ, suc, _+_, _-_, _≤_, _<_}
 use mathlib.Core.Path.{_≡_, sym, ap, _∙_}
 use mathlib.Core.List.{List, map}
 use native.Mathlib.Omega.{arith}
-use lib.ListN.{length, drop, length-append, length-map, length-drop, List·getD-append}
+use lib.ListN.{length, take, drop, length-append, length-map, length-drop, List·getD-append}
 use lib.Seq.{length-take-le, getD-append-add, getD-take, getD-drop}
 use Rattle.lists.proofs.Cases.{by-order}
 use Rattle.lists.proofs.Places.{map-at}
 use Rattle.segmentation.specs.Segments.{Segment, segmentAt}
 use Rattle.segmentation.proofs.Kept.{chain-starts, chain-ends}
-use Rattle.segmentation.specs.Joining.{lastIn}
-use Rattle.segmentation.specs.Around.{later, twice, turnFrom}
+use Rattle.segmentation.specs.Joining.{Join, lastIn}
+use Rattle.segmentation.specs.Around.{later, twice}
 use Rattle.segmentation.specs.Finished.{Chain, RingCut}
 
 abbrev nothing : Segment
 nothing = record { start = 0; peak = 0; end = 0 }
+
+-- how many of the first modes a run goes on to, past the last one: 0 where the difference would be negative
+abbrev pub passed : List Segment → Join → ℕ
+passed ss j = j .first + j .len - length ss
+
+-- the modes of one turn, from number k on
+unfoldable pub turnFrom : ℕ → (bins : ℕ) → List Segment → List Segment
+turnFrom k bins ss = take (length ss) (drop k (twice bins ss))
 
 module _ (bins : ℕ) (ss : List Segment) where
   pub twice-length : length (twice bins ss) ≡ length ss + length ss

@@ -23,22 +23,18 @@ twice bins ss = ss ++ map (later bins) ss
 unfoldable pub nextRound : Closeness → Reader → (bins : ℕ) → List Segment → Option Join
 nextRound e read bins ss = nextAmong e read (twice bins ss) true (length ss)
 
--- how many of the first modes a run goes on to, past the last one: 0 where the difference would be negative
-abbrev pub passed : List Segment → Join → ℕ
-passed ss j = j .first + j .len - length ss
-
--- the modes of one turn, from number k on
-unfoldable pub turnFrom : ℕ → (bins : ℕ) → List Segment → List Segment
-turnFrom k bins ss = take (length ss) (drop k (twice bins ss))
-
 -- the same run, with another number for its start
 abbrev pub startingAt : ℕ → Join → Join
 startingAt i j = record { first = i; len = j .len; rise = j .rise; cost = j .cost }
 
--- R5, R7: the run is joined in the turn that begins behind it, so where it goes past the last mode its mode becomes the last, and the modes still number from
--- the opening on. A run has no more modes than there are, so it passes no more than stand before it: the difference is never negative
+-- R5, R7: a run of n modes, which `all` has twice over, is joined in the turn that begins behind it: where it goes on to `past` of the first modes, its mode becomes
+-- the last, and the modes still number from the opening on. `past` is 0 where the first difference would be negative; a run has no more modes than there are, so the
+-- second one never is
+unfoldable pub joinTwice : (all : List Segment) (n : ℕ) → Join → List Segment
+joinTwice all n j = let past = j .first + j .len - n in join (take n (drop past all)) (startingAt (j .first - past) j)
+
 unfoldable pub joinRound : (bins : ℕ) → List Segment → Join → List Segment
-joinRound bins ss j = join (turnFrom (passed ss j) bins ss) (startingAt (j .first - passed ss j) j)
+joinRound bins ss j = joinTwice (twice bins ss) (length ss) j
 
 abbrev pub ringJoins : Closeness → Reader → (bins : ℕ) → Joins
 ringJoins e read bins = record { next = nextRound e read bins; after = joinRound bins }

@@ -10,7 +10,7 @@ use lib.IntN.{pos}
 use lib.Signed.{_≤ℤ_}
 use Rattle.lists.specs.Lists.{total, countIf, ExactlyOne}
 use Rattle.pooling.specs.Blocks.{Direction, increasing, decreasing}
-use Rattle.pooling.specs.Limits.{mostBins, mostCounts}
+use Rattle.pooling.specs.Limits.{mostRingBins, mostRingCounts, mostBins, mostCounts}
 use Rattle.verdict.specs.Test.{Closeness, rejected}
 use Rattle.verdict.specs.Exactness.{VerdictSound}
 use Rattle.segmentation.specs.Segments.{Segment, segmentAt, binAt, inMode}
@@ -83,8 +83,11 @@ pub record RingFinished (e : Closeness) (h : List ℕ) : Type 0 where
   pub place : (b : ℕ) → b < length h → (linePlace h b < length h) × (ringBin h (linePlace h b) ≡ b)
   pub finished : FinishedRound e (roundReader h) (length h) (ringModes e h)
   pub oneMode : (b : ℕ) → b < length h → ExactlyOne (length (ringModes e h)) (λ m. inRingMode e h m b)
-  -- what stands behind the verdict of every stretch, in either direction, that reads no bin twice, and of every full turn from a bin that holds at most half of
-  -- the counts; the stretches of the runs and of the humps are among them
+  -- what stands behind the verdicts of every run, and of every hump, which is a run of one
+  pub runs : (i n : ℕ) → i < length (ringModes e h) → 1 ≤ n → n ≤ length (ringModes e h)
+      → VerdictSound e increasing (riseOf (roundReader h) (twice (length h) (ringModes e h)) i n)
+      × VerdictSound e decreasing (fallOf (roundReader h) (twice (length h) (ringModes e h)) i n)
+  -- and, in either direction, of every stretch that reads no bin twice and of every full turn from a bin that holds at most half of the counts
   pub verdicts : (w : Direction) (i j : ℕ) → i ≤ j → j < i + length h → j < length h + length h → VerdictSound e w (roundReader h i j)
   pub fullTurns : (w : Direction) (i : ℕ) → i < length h → 2 * binAt h (ringBin h i) ≤ total h → VerdictSound e w (roundReader h i (i + length h))
   -- each separator is such a bin, for it is the lowest of all or lower than the one before it
@@ -101,7 +104,7 @@ AlwaysFinished = (e : Closeness) (h : List ℕ) → 2 ≤ length h → length h 
 
 -- proved in proofs/Always
 abbrev pub RingAlwaysFinished : Type 0
-RingAlwaysFinished = (e : Closeness) (h : List ℕ) → 2 ≤ length h → length h ≤ 256 → total h ≤ 65536 → RingFinished e h
+RingAlwaysFinished = (e : Closeness) (h : List ℕ) → 2 ≤ length h → length h ≤ mostRingBins → total h ≤ mostRingCounts → RingFinished e h
 
 -- proved in proofs/Always: the ring's separators, in the order from the opening, are such a list
 abbrev pub RingAlwaysListed : Type 0

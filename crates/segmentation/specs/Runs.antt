@@ -4,18 +4,17 @@ use mathlib.Core.Path.{_≡_}
 use mathlib.Core.Bool.{Bool, true, false, cond}
 use mathlib.Core.List.{List, _++_}
 use mathlib.Core.Option.{Option, none, some}
-use lib.ListN.{length, take, drop, getD}
+use lib.ListN.{length, getD}
 use lib.IntN.{ℤ, pos}
 use lib.Signed.{ltZ, mag, _≤ℤ_}
 use Rattle.lists.specs.Lists.{total, part}
 use Rattle.logarithm.specs.Sheet.{logSheet}
 use Rattle.verdict.specs.Test.{Closeness}
 use Rattle.verdict.specs.Settings.{lastSetting}
-use Rattle.pooling.specs.Limits.{Small}
+use Rattle.pooling.specs.Limits.{mostRingBins, mostRingCounts, Small}
 use Rattle.segmentation.specs.declared.Found.{Found}
 use Rattle.segmentation.specs.Segments.{Segment, segmentAt, binAt}
-use Rattle.segmentation.specs.Joining.{Reader, Join, join, joinOf, lastStart}
-use Rattle.segmentation.specs.Around.{startingAt}
+use Rattle.segmentation.specs.Joining.{Reader, Join, joinOf, lastStart}
 use Rattle.segmentation.specs.Finished.{RingCut}
 use Rattle.segmentation.specs.Held.{segmentsHeld}
 
@@ -66,7 +65,7 @@ pub record RingHeld (sheet : List ℕ) (setting : ℕ) (round separators peaks :
   pub turn : List ℕ
   pub turns : round ≡ turn ++ turn
   pub asLong : length turn ≡ bins
-  pub limits : (bins ≤ 256) × (total turn ≤ 65536)
+  pub limits : (bins ≤ mostRingBins) × (total turn ≤ mostRingCounts)
   pub prepared : Prepared sheet setting separators peaks (n + n)
   pub onRing : OnRing bins turn (segmentsHeld separators peaks 0 n)
 
@@ -78,10 +77,6 @@ EachTo bound xs from n = (k : ℕ) → k < n → getD xs (from + k) 0 ≤ bound
 pub record Repeated (before after : List ℕ) (from n by : ℕ) : Type 0 where
   pub kept : (m : ℕ) → m < from + n → getD after m 0 ≡ getD before m 0
   pub again : (k : ℕ) → k < n → getD after (from + n + k) 0 ≡ getD before (from + k) 0 + by
-
--- a run joined among n modes that are held twice over
-unfoldable pub joinTwice : (all : List Segment) (n : ℕ) → Join → List Segment
-joinTwice all n j = let past = j .first + j .len - n in join (take n (drop past all)) (startingAt (j .first - past) j)
 
 -- what the code gives for the run j when only a cost below `least` matters: j itself if its cost is below `least`, else a run whose cost is not
 pub record RunBelow (least : ℤ) (j r : Join) : Type 0 where

@@ -12,7 +12,7 @@ ghost use Prim.Native.Nat.{_≤_};
 ghost use lib.ListN.{length, take};
 ghost use Rattle.lists.specs.Lists.{total, over};
 ghost use Rattle.verdict.specs.Settings.{lastSetting, closenessOf};
-ghost use Rattle.pooling.specs.Limits.{Small};
+ghost use Rattle.pooling.specs.Limits.{mostRingBins, mostRingCounts, Small};
 ghost use Rattle.segmentation.specs.Joining.{lineSeparators};
 ghost use Rattle.segmentation.specs.Ring.{opening, ringModes, ringSeparators};
 
@@ -51,7 +51,7 @@ pub fn line_separators(h: &[u32], setting: u32, list: &mut [u32]) -> u32
 
 // Writes where the modes of a ring start, by places from its opening on. Returns the opening, and how many modes there are.
 pub fn ring_modes(h: &[u32], setting: u32, places: &mut [u32]) -> Opened
-    requires { ⌜ (2 ≤ length (now h)) × (length (now h) ≤ 256) × (total (now h) ≤ 65536) ⌝ }
+    requires { ⌜ (2 ≤ length (now h)) × (length (now h) ≤ mostRingBins) × (total (now h) ≤ mostRingCounts) ⌝ }
     requires { ⌜ (setting ≤ lastSetting) × (length (now h) ≤ length (now places)) ⌝ }
     ensures { λ r. ⌜ (r .opening ≡ opening (now (h .entry))) × (r .modes ≡ length (ringModes (closenessOf setting) (now (h .entry))))
         × (now (places .exit) ≡ over (map (λ s. s .start) (ringModes (closenessOf setting) (now (h .entry)))) (now (places .entry))) ⌝ }
@@ -72,7 +72,7 @@ pub fn ring_modes(h: &[u32], setting: u32, places: &mut [u32]) -> Opened
 
 // Writes the separators of a ring, from its opening on. Returns how many there are.
 pub fn ring_separators(h: &[u32], setting: u32, list: &mut [u32]) -> u32
-    requires { ⌜ (2 ≤ length (now h)) × (length (now h) ≤ 256) × (total (now h) ≤ 65536) ⌝ }
+    requires { ⌜ (2 ≤ length (now h)) × (length (now h) ≤ mostRingBins) × (total (now h) ≤ mostRingCounts) ⌝ }
     requires { ⌜ (setting ≤ lastSetting) × (length (now h) ≤ length (now list)) ⌝ }
     ensures { λ r. ⌜ (r ≡ length (ringSeparators (closenessOf setting) (now (h .entry))))
         × (now (list .exit) ≡ over (ringSeparators (closenessOf setting) (now (h .entry))) (now (list .entry))) ⌝ }

@@ -8,7 +8,7 @@ ghost use mathlib.Core.List.{map};
 ghost use Prim.Native.Nat.{_+_, _*_, _%_, _≤_, _<_};
 ghost use lib.ListN.{length, take};
 ghost use Rattle.lists.specs.Lists.{total, over};
-ghost use Rattle.pooling.specs.Limits.{mostBins};
+ghost use Rattle.pooling.specs.Limits.{mostRingBins, mostRingCounts, mostBins};
 ghost use Rattle.verdict.specs.Settings.{lastSetting, closenessOf};
 ghost use Rattle.segmentation.specs.Held.{segmentsHeld};
 ghost use Rattle.segmentation.specs.Ring.{opening, twoTurns, ringModes};
@@ -31,7 +31,7 @@ pub fn lowest_bin(h: &[u32]) -> usize
 
 // Writes two turns of the ring, from bin `first` on, into the first places of `round`.
 pub fn write_turns(h: &[u32], first: usize, round: &mut [u32])
-    requires { ⌜ (1 ≤ length (now h)) × (length (now h) ≤ 256) × (length (now h) + length (now h) ≤ length (now round)) ⌝ }
+    requires { ⌜ (1 ≤ length (now h)) × (length (now h) ≤ mostRingBins) × (length (now h) + length (now h) ≤ length (now round)) ⌝ }
     requires { ⌜ first ≡ opening (now h) ⌝ }
     ensures { λ _. ⌜ now (round .exit) ≡ over (twoTurns (now (h .entry))) (now (round .entry)) ⌝ }
 {
@@ -52,7 +52,7 @@ pub fn ring(
     separators: &mut [u32],
     peaks: &mut [u32],
 ) -> usize
-    requires { ⌜ (2 ≤ length (now h)) × (length (now h) ≤ 256) × (total (now h) ≤ 65536) × (now round ≡ twoTurns (now h)) ⌝ }
+    requires { ⌜ (2 ≤ length (now h)) × (length (now h) ≤ mostRingBins) × (total (now h) ≤ mostRingCounts) × (now round ≡ twoTurns (now h)) ⌝ }
     requires { ⌜ (setting ≤ lastSetting) × (2 * mostBins ≤ length (now separators)) × (2 * mostBins ≤ length (now peaks)) ⌝ }
     ensures { λ r. ⌜ segmentsHeld (now (separators .exit)) (now (peaks .exit)) 0 r ≡ ringModes (closenessOf setting) (now (h .entry)) ⌝ }
 {
@@ -70,7 +70,7 @@ pub fn ring(
 // Writes the bins at the first n places, by the ring's own numbers, into the first places of `out`.
 pub fn ring_numbers(places: &[u32], n: usize, opening: usize, bins: usize, out: &mut [u32])
     requires { ⌜ (n ≤ length (now places)) × (n ≤ length (now out)) ⌝ }
-    requires { ⌜ (opening < bins) × (bins ≤ 256) ⌝ }
+    requires { ⌜ (opening < bins) × (bins ≤ mostRingBins) ⌝ }
     ensures { λ _. ⌜ now (out .exit) ≡ over (map (λ s. (opening + s) % bins) (take n (now (places .entry)))) (now (out .entry)) ⌝ }
 {
     let mut i = 0;

@@ -11,9 +11,9 @@ ghost use lib.ListN.{length};
 ghost use Rattle.pooling.specs.Limits.{mostBins};
 ghost use Rattle.verdict.specs.Settings.{closenessOf};
 ghost use Rattle.segmentation.specs.Joining.{lineReader, joinAll};
-ghost use Rattle.segmentation.specs.Around.{ringJoins};
+ghost use Rattle.segmentation.specs.Around.{joinTwice, ringJoins};
 ghost use Rattle.segmentation.specs.Held.{segmentsHeld};
-ghost use Rattle.segmentation.specs.Runs.{RingHeld, NoneAmong, EachTo, Repeated, joinTwice};
+ghost use Rattle.segmentation.specs.Runs.{RingHeld, NoneAmong, EachTo, Repeated};
 
 // Writes the n members from place `from` on again behind them, `by` more each.
 fn repeat(a: &mut [u32], from: usize, n: usize, by: usize)

@@ -10,8 +10,8 @@ pub struct Verdict {
     pub rejected: bool,
 }
 
-/// The verdict of a stretch of 257 bins and a sum of 98,304 at most: those of an opened ring, whose lowest bin counts
-/// twice.
+/// The verdict of a stretch of 257 bins and a sum of 98,304 at most: those of a full turn of a ring, whose separator, at
+/// both ends, holds at most half of the counts.
 pub fn verdict(counts: &[u64], rising: bool, closeness: i32) -> Verdict {
     let cost = largest_weight(counts, rising) - bar(counts.len(), closeness);
     Verdict {

@@ -7,6 +7,7 @@ use mathlib.Core.Option.{some}
 use native.Mathlib.Omega.{arith}
 use lib.ListN.{length}
 use borrow.Author.Needs.{needs}
+use Rattle.pooling.specs.Limits.{mostRingBins}
 use Rattle.verdict.specs.Settings.{closenessOf}
 use Rattle.segmentation.specs.Segments.{Segment}
 use Rattle.segmentation.specs.Joining.{lineReader, nextAmong, Joins, joinAll}
@@ -70,7 +71,7 @@ inside : (c : tie.After-repeat2) → AllInside (entry (once c) .args .round .now
 inside c =
     let s = entry (once c) in
     let p = s .pre .0 in
-    let few-bins : length (p .turn) ≤ 256 = omega (arith, p .asLong, p .limits) in
+    let few-bins : length (p .turn) ≤ mostRingBins = omega (arith, p .asLong, p .limits) in
     let on = subst (λ (b : ℕ). OnRing b (p .turn) (modes s)) (sym (p .asLong)) (p .onRing) in
     let as-held = held c ∙ ap (λ (b : ℕ). twice b (modes s)) (sym (p .asLong)) in
     subst (λ (xs : List ℕ). AllInside xs (once c .repeat .last .0) (c .repeat2 .last .0) true (s .args .n)) (sym (p .turns))
