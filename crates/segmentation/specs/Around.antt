@@ -27,9 +27,9 @@ nextRound e read bins ss = nextAmong e read (twice bins ss) true (length ss)
 abbrev pub startingAt : ℕ → Join → Join
 startingAt i j = record { first = i; len = j .len; rise = j .rise; cost = j .cost }
 
--- R5, R7: a run of n modes, which `all` has twice over, is joined in the turn that begins behind it: where it goes on to `past` of the first modes, its mode becomes
--- the last, and the modes still number from the opening on. `past` is 0 where the first difference would be negative; a run has no more modes than there are, so the
--- second one never is
+-- R5, R7: a run among n modes, which `all` has twice over, is joined in the turn that begins behind it. So where it goes on past the last mode, to `past` of the first
+-- ones, its mode becomes the last, and the modes still number from the opening on. `past` is 0 where the first difference would be negative; a run has no more modes than
+-- there are, so the second one never is
 unfoldable pub joinTwice : (all : List Segment) (n : ℕ) → Join → List Segment
 joinTwice all n j = let past = j .first + j .len - n in join (take n (drop past all)) (startingAt (j .first - past) j)
 
