@@ -133,17 +133,17 @@ changes() {
 
 # Every stored swatch, into another folder.
 stored() {
-    local card number lines=() to="$work/other cards/new"
+    local card number lines=() swatches=(tests/swatches/*.txt) to="$work/other cards/new"
     for card in tests/swatches/*.card; do
         number=$(tr -d ' ' <"$card")
         [[ $(wc -c <"$card") -ne 7 ]] || lines+=("$(basename "$card" .card).txt: $number: $(sed -n "s/^$number //p" tools/grounds)")
     done
     mkdir "$work/stored"
-    cp tests/swatches/*.txt "$work/stored"
+    cp "${swatches[@]}" "$work/stored"
     state_of "$work/stored" >"$work/before"
     try archive "$work/stored" "$to"
     check "the stored swatches, damaged ones and all" \
-        says 1 "106 swatches: $((106 - ${#lines[@]})) cards made, 0 were there already" "${#lines[@]} turned down:" "${lines[@]/#/  }"
+        says 1 "${#swatches[@]} swatches: $((${#swatches[@]} - ${#lines[@]})) cards made, 0 were there already" "${#lines[@]} turned down:" "${lines[@]/#/  }"
     check "their cards in another folder" all_right "$work/stored" "$to"
     check "and turned-down.txt beside them" cmp -s "$to/turned-down.txt" <(printf '%s\n' "${lines[@]}")
     check "nothing new beside the swatches" cmp -s "$work/before" <(state_of "$work/stored")
