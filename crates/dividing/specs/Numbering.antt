@@ -3,6 +3,7 @@ use Prim.Native.Nat.{ℕ, suc, _+_, _%_, _≤_, _<_}
 use mathlib.Core.Path.{_≡_}
 use mathlib.Core.List.{List}
 use lib.ListN.{length, getD}
+use Rattle.lists.specs.Lists.{Rising}
 use Rattle.verdict.specs.Test.{Closeness}
 use Rattle.palette.specs.Levels.{Level, saturation, intensity, modesAt}
 use Rattle.dividing.specs.Splitting.{modeOf}
@@ -10,7 +11,7 @@ use Rattle.dividing.specs.Splitting.{modeOf}
 -- modes start at these places: there is one, and each starts after the one before it
 pub record Rises (separators : List ℕ) : Type 0 where
   pub some : 0 < length separators
-  pub rises : (m : ℕ) → suc m < length separators → getD separators m 0 < getD separators (suc m) 0
+  pub rises : Rising separators
 
 -- the place before place i lies in mode m: the last one that starts before place i; where none does, the last of all, which goes on round the ring to the first
 pub record ModeBefore (separators : List ℕ) (m i : ℕ) : Type 0 where

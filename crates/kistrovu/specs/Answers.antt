@@ -12,7 +12,7 @@ use Rattle.pooling.specs.Blocks.{direction, fitted}
 use Rattle.verdict.specs.declared.Verdict.{Verdict}
 use Rattle.verdict.specs.Test.{Closeness, verdictOf}
 use Rattle.segmentation.specs.Joining.{lineSeparators}
-use Rattle.segmentation.specs.Ring.{ringSeparators}
+use Rattle.listing.specs.Listing.{ringSeparators}
 use Rattle.palette.specs.declared.Entry.{Entry}
 use Rattle.palette.specs.Cards.{pixelsOf, entries, labels, mostEntries, noEntry}
 use Rattle.swatch.specs.Input.{bytesOf}
@@ -55,9 +55,12 @@ verdictAnswer e rising h = record {
   verdict = served (verdictNumber e h) (verdictOf e (direction rising) h) noVerdict;
 }
 
--- A4: how many separators there are
+-- A4: how many separators there are, of a line or of a ring, and the separator list as the call leaves it
 unfoldable pub modesAnswer : List ℕ → ℕ → ModesAnswer
 modesAnswer separators number = record { number = number; separators = served number (length separators) 0 }
+
+unfoldable pub modesList : List ℕ → ℕ → List ℕ → List ℕ
+modesList separators number list = served number (over separators list) list
 
 unfoldable pub lineAnswer : Closeness → List ℕ → ℕ → ModesAnswer
 lineAnswer e h places = modesAnswer (lineSeparators e h) (modesNumber e h places)
@@ -65,9 +68,11 @@ lineAnswer e h places = modesAnswer (lineSeparators e h) (modesNumber e h places
 unfoldable pub ringAnswer : Closeness → List ℕ → ℕ → ModesAnswer
 ringAnswer e h places = modesAnswer (ringSeparators e h) (modesNumber e h places)
 
--- A4: the separator list as a line call leaves it
 unfoldable pub lineList : Closeness → List ℕ → List ℕ → List ℕ
-lineList e h list = served (modesNumber e h (length list)) (over (lineSeparators e h) list) list
+lineList e h list = modesList (lineSeparators e h) (modesNumber e h (length list)) list
+
+unfoldable pub ringList : Closeness → List ℕ → List ℕ → List ℕ
+ringList e h list = modesList (ringSeparators e h) (modesNumber e h (length list)) list
 
 -- the entries of a served card
 unfoldable pub servedEntries : Closeness → List ℕ → ℕ → List Entry

@@ -1,4 +1,4 @@
--- What holds besides the equations: for a served call (D2 and D3), for a ring call's list, for a card made twice, and for the program's text. Assumes nothing.
+-- What holds besides the equations: for a served call (D2 and D3), for a card made twice, and for the program's text. Assumes nothing.
 use Prim.Native.Nat.{ℕ, suc, _≤_, _<_}
 use mathlib.Core.Path.{_≡_}
 use mathlib.Core.Bool.{cond}
@@ -6,9 +6,8 @@ use mathlib.Core.List.{List, map}
 use lib.Dec.{ltb, eqb}
 use lib.IntN.{pos}
 use lib.ListN.{length, take, getD}
-use Rattle.lists.specs.Lists.{over, total, countIf, ExactlyOne}
+use Rattle.lists.specs.Lists.{total, countIf, ExactlyOne}
 use Rattle.verdict.specs.Test.{Closeness}
-use Rattle.segmentation.specs.Finished.{ListsOnce}
 use Rattle.pixel.specs.declared.Pixel.{Pixel}
 use Rattle.palette.specs.declared.Entry.{Entry}
 use Rattle.palette.specs.Levels.{greyLevels, colourLevels}
@@ -17,9 +16,8 @@ use Rattle.palette.specs.Sound.{pixelAt, entryAt, countsUnder, AllSound}
 use Rattle.swatch.specs.Reading.{longestSwatch}
 use Rattle.swatch.specs.Output.{printedCard, printedMost}
 use Rattle.swatch.specs.Written.{writtenSwatch, MakesSwatch}
-use Rattle.kistrovu.specs.declared.ModesAnswer.{ModesAnswer}
 use Rattle.kistrovu.specs.declared.Card.{Card}
-use Rattle.kistrovu.specs.Grounds.{modesNumber, cardNumber, programCloseness, textNumber}
+use Rattle.kistrovu.specs.Grounds.{cardNumber, programCloseness, textNumber}
 use Rattle.kistrovu.specs.Answers.{cardAnswer, labelList, printed, printedAnswer}
 
 -- D2 and D3: P holds if the call is served, that is, if its number n is 0
@@ -28,12 +26,6 @@ IfServed n P = n ≡ 0 → P
 
 abbrev pub IfTurnedDown : ℕ → Type 0 → Type 0
 IfTurnedDown n P = 0 < n → P
-
--- R8: the separator list of a ring call, lent as `before` and left as `after`. Only the order is free: `order` has the separators in that order, as many as
--- the answer r says
-pub record RingList (e : Closeness) (h before after : List ℕ) (r : ModesAnswer) : Type 0 where
-  pub listed : IfServed (modesNumber e h (length before)) ((order : List ℕ) × ListsOnce e h order × (length order ≡ r .separators) × (after ≡ over order before))
-  pub asLent : IfTurnedDown (modesNumber e h (length before)) (after ≡ before)
 
 -- D3 of a served card call, stated only about what it hands back: the answer r, and the labels that it leaves
 module _ (e : Closeness) (bytes : List ℕ) (r : Card) (labels : List ℕ) where

@@ -13,6 +13,7 @@ ghost use Rattle.pooling.specs.Blocks.{direction};
 ghost use Rattle.pooling.specs.Best.{Pooled};
 ghost use Rattle.verdict.specs.Exactness.{VerdictSound};
 ghost use Rattle.segmentation.specs.Finished.{LineFinished, RingFinished};
+ghost use Rattle.listing.specs.Listing.{RingOrdered};
 ghost use Rattle.palette.specs.Cards.{pixelsOf};
 ghost use Rattle.palette.specs.Sound.{SoundCard};
 ghost use Rattle.swatch.specs.Input.{bytesOf};
@@ -25,12 +26,13 @@ ghost use Rattle.kistrovu.specs.Answers.{
   lineAnswer,
   lineList,
   ringAnswer,
+  ringList,
   cardAnswer,
   labelList,
   printedAnswer,
   groundAnswer,
 };
-ghost use Rattle.kistrovu.specs.Facts.{IfServed, RingList, SoundAnswer};
+ghost use Rattle.kistrovu.specs.Facts.{IfServed, SoundAnswer};
 
 mod grounds;
 mod printing;
@@ -173,7 +175,7 @@ pub extern "C" fn kistrovu_line_modes(
     }
 }
 
-// The modes of a ring, joined all round it: its separators, each once, in the first places of the list; their order is free. Grounds 6, 7, 8, 10.
+// The modes of a ring, joined all round it: its separators, from the lowest bin number up, in the first places of the list. Grounds 6, 7, 8, 10.
 #[no_mangle]
 pub extern "C" fn kistrovu_ring_modes(
     histogram: &[u32],
@@ -181,8 +183,8 @@ pub extern "C" fn kistrovu_ring_modes(
     separators: &mut [u32],
 ) -> ModesAnswer
     ensures { λ r. ⌜ (r ≡ ringAnswer closeness (now (histogram .entry)) (length (now (separators .entry))))
-        × RingList closeness (now (histogram .entry)) (now (separators .entry)) (now (separators .exit)) r
-        × IfServed (r .number) (RingFinished closeness (now (histogram .entry))) ⌝ }
+        × (now (separators .exit) ≡ ringList closeness (now (histogram .entry)) (now (separators .entry)))
+        × IfServed (r .number) (RingFinished closeness (now (histogram .entry)) × RingOrdered closeness (now (histogram .entry))) ⌝ }
 {
     let number = grounds::modes_number(histogram, closeness, separators.len());
     if number != 0 {
@@ -193,11 +195,7 @@ pub extern "C" fn kistrovu_ring_modes(
     }
     ModesAnswer {
         number: 0,
-        separators: segmentation::ring_separators(
-            histogram,
-            verdict::setting_of(closeness),
-            separators,
-        ),
+        separators: listing::ring_separators(histogram, verdict::setting_of(closeness), separators),
     }
 }
 

@@ -1,6 +1,6 @@
 -- Every row of the tables holds, computed from the definitions. Assumes nothing.
 use mathlib.Core.Path.{refl}
-use Rattle.lists.specs.Lists.{part, numbers, filter, countIf, firstThat, largestThat, firstLowest, largest}
+use Rattle.lists.specs.Lists.{part, numbers, filter, countIf, contains, firstThat, largestThat, firstLowest, largest}
 use Rattle.pixel.specs.Colour.{intensityBin, chromaSquared, saturationOf, saturationBin, isGrey, tangents, huePoint, quarter, turnedBack, turnedOf, tangentsPassed, hueAt, hueOf, hueBin, measuresOf}
 use Rattle.logarithm.specs.Log.{roundCount, unitsPerBit, floorLog, rounds, lg}
 use Rattle.pooling.specs.Blocks.{push, blocks, fitted, placesFrom}
@@ -8,7 +8,8 @@ use Rattle.verdict.specs.Test.{placeOf, massWithin, massAcross, fittedMass, wei
 use Rattle.segmentation.specs.Segments.{risesAbove, isValley, firstSeparators, firstHighest, segmentsFrom, firstSegments, inMode}
 use Rattle.segmentation.specs.Joining.{riseOf, fallOf, joined, join, riseCost, fallCost, joinOf, cheapest, nextAmong, nextJoin, joinAll, lineModes, lineSeparators}
 use Rattle.segmentation.specs.Around.{twice, nextRound, joinTwice, joinRound}
-use Rattle.segmentation.specs.Ring.{opening, opened, ringBin, linePlace, fromOpening, twoTurns, ringModes, ringSeparators, inRound, inRingMode}
+use Rattle.segmentation.specs.Ring.{opening, opened, ringBin, linePlace, fromOpening, twoTurns, ringModes, ringStarts, inRound, inRingMode}
+use Rattle.listing.specs.Listing.{ringSeparators}
 use Rattle.kistrovu.specs.Grounds.{firstGround, verdictNumber}
 use Rattle.samples.specs.Starred.{StarredHold}
 use Rattle.samples.specs.Guards.{GuardsHold}
@@ -23,9 +24,9 @@ unfolding part numbers filter countIf firstThat largestThat firstLowest largest 
 guards-hold = refl
 
 pub rings-hold : RingsHold
-unfolding part numbers filter firstThat largestThat firstLowest largest roundCount unitsPerBit floorLog rounds lg push blocks fitted placesFrom placeOf massWithin massAcross fittedMass weight partWeight bar largestWeight cost risesAbove isValley firstSeparators firstHighest segmentsFrom firstSegments riseOf fallOf joined join riseCost fallCost joinOf cheapest nextAmong nextJoin joinAll lineModes twice nextRound joinTwice joinRound opening opened ringBin linePlace fromOpening twoTurns ringModes ringSeparators inRound inRingMode
+unfolding part numbers filter countIf contains firstThat largestThat firstLowest largest roundCount unitsPerBit floorLog rounds lg push blocks fitted placesFrom placeOf massWithin massAcross fittedMass weight partWeight bar largestWeight cost risesAbove isValley firstSeparators firstHighest segmentsFrom firstSegments riseOf fallOf joined join riseCost fallCost joinOf cheapest nextAmong nextJoin joinAll lineModes twice nextRound joinTwice joinRound opening opened ringBin linePlace fromOpening twoTurns ringModes ringStarts ringSeparators inRound inRingMode
 rings-hold = refl
 
 pub joins-round-hold : JoinsRoundHold
-unfolding part numbers filter firstThat largestThat firstLowest largest roundCount unitsPerBit floorLog rounds lg push blocks fitted placesFrom placeOf massWithin massAcross fittedMass weight partWeight bar largestWeight cost risesAbove isValley firstSeparators firstHighest segmentsFrom firstSegments riseOf fallOf joined join riseCost fallCost joinOf cheapest nextAmong nextJoin joinAll lineModes twice nextRound joinTwice joinRound opening opened ringBin linePlace fromOpening twoTurns ringModes ringSeparators inRound inRingMode
+unfolding part numbers filter countIf contains firstThat largestThat firstLowest largest roundCount unitsPerBit floorLog rounds lg push blocks fitted placesFrom placeOf massWithin massAcross fittedMass weight partWeight bar largestWeight cost risesAbove isValley firstSeparators firstHighest segmentsFrom firstSegments riseOf fallOf joined join riseCost fallCost joinOf cheapest nextAmong nextJoin joinAll lineModes twice nextRound joinTwice joinRound opening opened ringBin linePlace fromOpening twoTurns ringModes inRound inRingMode
 joins-round-hold = refl

@@ -5,12 +5,16 @@ use Rattle.samples.specs.Rows.{Sample, round, ring, minus, mode, AllHold
 
 abbrev pub rings : List Sample
 rings =
-    -- a ring opened away from bin 0, at the first of equal lowest bins; separators by its own numbers, modes from the opening
-    ring (pos 0) (9 ∷ 1 ∷ 9 ∷ 0 ∷ 9 ∷ 0 ∷ []) (3 ∷ 5 ∷ 1 ∷ []) (1 ∷ 2 ∷ 2 ∷ 0 ∷ 0 ∷ 1 ∷ [])
+    -- a ring opened away from bin 0, at the first of equal lowest bins; separators by its own numbers from the lowest up, modes from the opening
+    ring (pos 0) (9 ∷ 1 ∷ 9 ∷ 0 ∷ 9 ∷ 0 ∷ []) (1 ∷ 3 ∷ 5 ∷ []) (1 ∷ 2 ∷ 2 ∷ 0 ∷ 0 ∷ 1 ∷ [])
     -- a flat minimum across the seam
     ∷ ring (pos 0) (0 ∷ 0 ∷ 9 ∷ 1 ∷ 9 ∷ 0 ∷ []) (0 ∷ 3 ∷ []) (0 ∷ 0 ∷ 0 ∷ 1 ∷ 1 ∷ 1 ∷ [])
+    -- the list begins with the lowest bin number, wherever the modes begin
+    ∷ ring (pos 0) (2 ∷ 50 ∷ 9 ∷ 0 ∷ 50 ∷ 3 ∷ 60 ∷ []) (0 ∷ 3 ∷ 5 ∷ []) (2 ∷ 2 ∷ 2 ∷ 0 ∷ 0 ∷ 1 ∷ 1 ∷ [])
     -- mode 0 starts at the first separator at or after the opening; the bins before it lie in the last mode
     ∷ ring (minus 2) (2 ∷ 0 ∷ 2 ∷ 7 ∷ 0 ∷ 7 ∷ 0 ∷ []) (4 ∷ 6 ∷ []) (1 ∷ 1 ∷ 1 ∷ 1 ∷ 0 ∷ 0 ∷ 1 ∷ [])
+    -- opened at bin 1, which is no separator any more; the list begins with bin 3, and so does mode 0
+    ∷ ring (pos 1) (94 ∷ 78 ∷ 144 ∷ 78 ∷ 143 ∷ 78 ∷ 78 ∷ 118 ∷ 78 ∷ []) (3 ∷ 5 ∷ []) (1 ∷ 1 ∷ 1 ∷ 0 ∷ 0 ∷ 1 ∷ 1 ∷ 1 ∷ 1 ∷ [])
     ∷ []
 
 -- proved in proofs/Tables

@@ -17,7 +17,8 @@ use Rattle.verdict.specs.declared.Verdict.{Verdict}
 use Rattle.verdict.specs.Test.{Closeness, verdictOf, fittedMass}
 use Rattle.segmentation.specs.Segments.{Segment, inMode}
 use Rattle.segmentation.specs.Joining.{lineModes, lineSeparators}
-use Rattle.segmentation.specs.Ring.{ringModes, ringSeparators, inRingMode}
+use Rattle.segmentation.specs.Ring.{ringModes, inRingMode}
+use Rattle.listing.specs.Listing.{ringSeparators}
 use Rattle.kistrovu.specs.Grounds.{verdictNumber}
 
 pub data Sample : Type 0 where
@@ -39,7 +40,7 @@ pub data Sample : Type 0 where
   inLine : Closeness → (bins : List ℕ) → (m b : ℕ) → Bool → Sample
   -- the modes of a ring, each with its peak, by places from the opening on
   round : Closeness → (bins : List ℕ) → List Segment → Sample
-  -- the separators of a ring from its opening on, and each bin's mode
+  -- the separators of a ring as they are listed, and each bin's mode
   ring : Closeness → (bins : List ℕ) → (separators : List ℕ) → (modes : List ℕ) → Sample
 
 -- so many bins of 1,000, one of 999, and so many of 1,000: two segments, hardly apart

@@ -144,7 +144,7 @@ fn line(h: &[u32], closeness: i32) {
 }
 
 fn ring(h: &[u32], closeness: i32) {
-    let mut list = [99u32; 8];
+    let mut list = [99u32; 9];
     let m = kistrovu_ring_modes(h, closeness, &mut list);
     text(b"ring");
     counts(h);
@@ -198,6 +198,7 @@ fn others() {
     zeros();
     ripple(-10);
     ring(&[9, 1, 9, 0, 9, 0], 0);
+    ring(&[94, 78, 144, 78, 143, 78, 78, 118, 78], 1);
     ring(&[32768, 32768], 20);
 }
 

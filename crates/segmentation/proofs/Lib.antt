@@ -21,4 +21,4 @@ mod HeldTwice
 pub mod RingModes
 pub mod Filled
 pub mod Loose
-mod Listed
+pub mod Listed

@@ -1,13 +1,13 @@
--- Every ring ends finished: what its opened line has, and each join round it keeps, holds of its modes. Its separators are all different. Assumes nothing.
+-- Every ring ends finished: what its opened line has, and each join round it keeps, holds of its modes. Assumes nothing.
 use Prim.Native.Nat.{ℕ, _+_, _*_, _-_, _%_, _≤_, _<_}
 use mathlib.Core.Path.{_≡_, refl, sym, ap, subst, _∙_}
 use mathlib.Core.Bool.{true, false}
-use mathlib.Core.List.{List, _++_, map, map-map}
+use mathlib.Core.List.{List, _++_, map}
 use mathlib.Core.Option.{some}
 use native.Mathlib.Omega.{arith}
 use native.Mathlib.Nat.{mod-lt}
 use lib.Dec.{ltb}
-use lib.ListN.{length, take, getD, length-map, List·getD-map}
+use lib.ListN.{length, take, length-map}
 use lib.IntN.{pos}
 use lib.Signed.{ltZ, _≤ℤ_}
 use borrow.Author.Tests.{ltb-true}
@@ -15,7 +15,6 @@ use Rattle.lists.specs.Lists.{total, part, over, ExactlyOne}
 use Rattle.lists.proofs.Cases.{by-order}
 use Rattle.lists.proofs.Buffers.{over-front}
 use Rattle.lists.proofs.Connectives.{both-true}
-use Rattle.lists.proofs.Counting.{count-different}
 use Rattle.lists.proofs.Sums.{total-at, total-more}
 use Rattle.lists.proofs.Rotations.{mod-below}
 use Rattle.pooling.specs.Blocks.{Direction, increasing, decreasing}
@@ -26,14 +25,14 @@ use Rattle.verdict.proofs.Sound.{verdict-sound}
 use Rattle.segmentation.specs.Segments.{Segment, segmentAt, binAt, isValley, firstSegments}
 use Rattle.segmentation.specs.Joining.{lineReader, lastIn, riseOf, fallOf, Join, join, riseCost, fallCost, joinOf, nextJoin, lineModes}
 use Rattle.segmentation.specs.Around.{twice, nextRound, joinRound, ringJoins}
-use Rattle.segmentation.specs.Ring.{opening, opened, ringBin, linePlace, fromOpening, twoTurns, roundReader, ringModes, ringSeparators, inRingMode}
-use Rattle.segmentation.specs.Finished.{Cut, SingleHump, RingCut, FinishedRound, RingAlwaysFinished, RingAlwaysListed}
+use Rattle.segmentation.specs.Ring.{opening, opened, ringBin, linePlace, fromOpening, twoTurns, roundReader, ringModes, inRingMode}
+use Rattle.segmentation.specs.Finished.{Cut, SingleHump, RingCut, FinishedRound, RingAlwaysFinished}
 use Rattle.segmentation.specs.Runs.{OnRing, NoneAmong}
-use Rattle.segmentation.proofs.Kept.{Run, between, chain-ends, chain-rises, join-starts, hump-at, at-hump}
+use Rattle.segmentation.proofs.Kept.{Run, between, chain-ends, join-starts, hump-at, at-hump}
 use Rattle.segmentation.proofs.Settled.{unjoinable, line-settled, one-joins-none, join-all-keeps, joins-none, settled, none-joinable}
 use Rattle.segmentation.proofs.FirstCut.{separatorAt, first-segment, first-neighbours}
 use Rattle.segmentation.proofs.Finishing.{part-length, kept, modes-cut, modes-humps}
-use Rattle.segmentation.proofs.RingPlaces.{opening-in, opening-lowest, opening-first, ring-length, ring-bins, place-in, place-bin, ring-bins-differ}
+use Rattle.segmentation.proofs.RingPlaces.{opening-in, opening-lowest, opening-first, ring-length, ring-bins, place-in, place-bin}
 use Rattle.segmentation.proofs.TwoTurns.{opening-length, opening-total, opening-bins, turns-length, turns-bins, opened-part, part-later, part-once, part-turn}
 use Rattle.segmentation.proofs.RoundKept.{RoundRun, round-of, round-run, round-below, ring-shortens, on-ring-kept, round-humps}
 use Rattle.segmentation.proofs.RoundOne.{round-one}
@@ -294,28 +293,7 @@ ring-finished e h two bins counts =
       low = λ m l. omega (arith, on .low m l, opening-bins h n (segmentAt (ringModes e h) m .start) (on .cut .firstTurn m l), opening-total h);
     }
 
--- ---- the ring's separators are all different
-pub ring-listed : RingAlwaysListed
-unfolding ringSeparators
-ring-listed e h two = record { same = λ b. refl; once = count-different (ringSeparators e h) (ringBin h 0) differ }
-  where
-    at : (i : ℕ) → getD (ringSeparators e h) i (ringBin h 0) ≡ ringBin h (segmentAt (ringModes e h) i .start)
-    at i = List·getD-map (λ (s : Segment). ringBin h (s .start)) (ringModes e h) i (record { start = 0; peak = 0; end = 0 })
-
-    differ : (i j : ℕ) → i < j → j < length (ringSeparators e h) → getD (ringSeparators e h) i (ringBin h 0) ≡ getD (ringSeparators e h) j (ringBin h 0) → ⊥
-    differ i j l m q =
-        let n : 1 ≤ length h = omega arith in
-        let cut = ring-cut h two e in
-        let k : j < length (ringModes e h) = omega (arith, length-map (ringModes e h) (λ (s : Segment). ringBin h (s .start))) in
-        ring-bins-differ h n (segmentAt (ringModes e h) i .start) (segmentAt (ringModes e h) j .start) (chain-rises (ringModes e h) (cut .chain) i j l k)
-        (cut .firstTurn j k) (sym (at i) ∙ q ∙ at j)
-
--- they are where the modes start, in the ring's own numbers
-pub ring-separators : (e : Closeness) (h : List ℕ) → ringSeparators e h ≡ map (λ (s : ℕ). (opening h + s) % length h) (map (λ (s : Segment). s .start) (ringModes e h))
-unfolding ringSeparators ringBin
-ring-separators e h = sym (map-map (λ (s : ℕ). (opening h + s) % length h) (λ (s : Segment). s .start) (ringModes e h))
-
--- where they start, as the code lists it in the first n places
+-- ---- where the modes start, as the code has it in the first n places
 pub ring-starts-listed : (e : Closeness) (h buffer list : List ℕ) (n : ℕ) → n ≡ length (ringModes e h) → list ≡ over (map (λ (s : Segment). s .start) (ringModes e h)) buffer
     → take n list ≡ map (λ (s : Segment). s .start) (ringModes e h)
 ring-starts-listed e h buffer list n count is = ap (take n) is ∙ over-front _ buffer n (count ∙ sym (length-map (ringModes e h) (λ (s : Segment). s .start)))

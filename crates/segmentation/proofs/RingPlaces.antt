@@ -1,7 +1,7 @@
 -- The opened line of a ring: its first bin is the first of the ring's lowest bins, each bin of the ring has one place on it, and its sum is at most 1.5 times the ring's.
 -- Assumes nothing.
 use Prim.Native.Nat.{ℕ, suc, _+_, _*_, _-_, _%_, _≤_, _<_}
-use mathlib.Core.Path.{_≡_, sym, ap, _∙_}
+use mathlib.Core.Path.{_≡_, ap, _∙_}
 use mathlib.Core.List.{List, [], _∷_}
 use native.Mathlib.Omega.{arith}
 use native.Mathlib.Nat.{mod-lt}
@@ -96,6 +96,3 @@ module _ (h : List ℕ) (n : 1 ≤ length h) where
           let e : opening h + i - length h + length h - opening h ≡ i = omega arith in
           ap (λ (b : ℕ). (b + length h - opening h) % length h) (mod-above (opening h + i) (length h) u (omega arith))
           ∙ ap (λ (j : ℕ). j % length h) e ∙ mod-below i (length h) l
-
-  pub ring-bins-differ : (i j : ℕ) → i < j → j < length h → ringBin h i ≡ ringBin h j → ⊥
-  ring-bins-differ i j l m e = omega (arith, sym (bin-place i (omega arith)) ∙ ap (linePlace h) e ∙ bin-place j m)

@@ -9,7 +9,7 @@ use lib.Seq.{length-take-le, getD-append-add, getD-take, getD-drop, take-append-
 use Rattle.lists.specs.Lists.{total, part, over}
 use Rattle.lists.proofs.Cases.{by-order}
 use Rattle.lists.proofs.Sums.{total-append, total-split, total-take-le}
-use Rattle.lists.proofs.Rotations.{mod-below, mod-above}
+use Rattle.lists.proofs.Rotations.{turned-length, turned-at}
 use Rattle.lists.proofs.Buffers.{over-take}
 use Rattle.segmentation.specs.Segments.{binAt}
 use Rattle.segmentation.specs.Ring.{opening, opened, ringBin}
@@ -19,9 +19,7 @@ use Rattle.segmentation.specs.Ring.{fromOpening, twoTurns}
 -- ---- one turn
 pub opening-length : (h : List ℕ) → 1 ≤ length h → length (fromOpening h) ≡ length h
 unfolding fromOpening
-opening-length h n =
-    let o = opening-in h n in
-    omega (arith, length-append (drop (opening h) h) (take (opening h) h), length-drop (opening h) h, length-take-le (opening h) h (omega arith))
+opening-length h n = turned-length h (opening h) (omega (arith, opening-in h n))
 
 pub opening-total : (h : List ℕ) → total (fromOpening h) ≡ total h
 unfolding fromOpening
@@ -29,25 +27,7 @@ opening-total h = omega (arith, total-append (drop (opening h) h) (take (opening
 
 pub opening-bins : (h : List ℕ) → 1 ≤ length h → (i : ℕ) → i < length h → binAt (fromOpening h) i ≡ binAt h (ringBin h i)
 unfolding fromOpening ringBin
-opening-bins h n i l = by-order (opening h + i) (length h) before after
-  where
-    o : opening h < length h
-    o = opening-in h n
-
-    k : length (drop (opening h) h) ≡ length h - opening h
-    k = length-drop (opening h) h
-
-    before : opening h + i < length h → binAt (drop (opening h) h ++ take (opening h) h) i ≡ binAt h ((opening h + i) % length h)
-    before u =
-        List·getD-append (drop (opening h) h) (take (opening h) h) 0 i (omega (arith, k)) ∙ getD-drop (opening h) h i 0
-        ∙ ap (binAt h) (sym (mod-below (opening h + i) (length h) u))
-
-    after : length h ≤ opening h + i → binAt (drop (opening h) h ++ take (opening h) h) i ≡ binAt h ((opening h + i) % length h)
-    after u =
-        let j = opening h + i - length h in
-        let e : i ≡ length (drop (opening h) h) + j = omega (arith, k, o) in
-        ap (binAt (drop (opening h) h ++ take (opening h) h)) e ∙ getD-append-add (drop (opening h) h) (take (opening h) h) j 0
-        ∙ getD-take (opening h) h j 0 (omega (arith, o)) ∙ ap (binAt h) (sym (mod-above (opening h + i) (length h) u (omega (arith, o))))
+opening-bins h n i l = turned-at h (opening h) (omega (arith, opening-in h n)) i 0 l
 
 -- ---- two turns
 pub turns-length : (h : List ℕ) → 1 ≤ length h → length (twoTurns h) ≡ length h + length h

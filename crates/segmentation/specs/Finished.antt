@@ -4,11 +4,10 @@ use Prim.Native.Nat.{ℕ, suc, _+_, _*_, _-_, _≤_, _<_}
 use mathlib.Core.Path.{_≡_}
 use mathlib.Core.Bool.{false}
 use mathlib.Core.List.{List}
-use lib.Dec.{eqb}
 use lib.ListN.{length}
 use lib.IntN.{pos}
 use lib.Signed.{_≤ℤ_}
-use Rattle.lists.specs.Lists.{total, countIf, ExactlyOne}
+use Rattle.lists.specs.Lists.{total, Rising, ExactlyOne}
 use Rattle.pooling.specs.Blocks.{Direction, increasing, decreasing}
 use Rattle.pooling.specs.Limits.{mostRingBins, mostRingCounts, mostBins, mostCounts}
 use Rattle.verdict.specs.Test.{Closeness, rejected}
@@ -16,7 +15,7 @@ use Rattle.verdict.specs.Exactness.{VerdictSound}
 use Rattle.segmentation.specs.Segments.{Segment, segmentAt, binAt, inMode}
 use Rattle.segmentation.specs.Joining.{Reader, lineReader, riseOf, fallOf, riseCost, fallCost, lineModes, lineSeparators}
 use Rattle.segmentation.specs.Around.{twice}
-use Rattle.segmentation.specs.Ring.{opening, opened, ringBin, linePlace, twoTurns, roundReader, ringModes, ringSeparators, inRingMode}
+use Rattle.segmentation.specs.Ring.{opening, opened, ringBin, linePlace, twoTurns, roundReader, ringModes, inRingMode}
 
 -- the segments ss follow one another, and each has its peak between its separators
 pub record Chain (ss : List Segment) : Type 0 where
@@ -57,7 +56,7 @@ pub record Finished (e : Closeness) (read : Reader) (bins : ℕ) (ss : List Segm
 pub record LineFinished (e : Closeness) (h : List ℕ) : Type 0 where
   pub finished : Finished e (lineReader h) (length h) (lineModes e h)
   -- S10: the listed separators rise
-  pub rising : (i : ℕ) → suc i < length (lineSeparators e h) → binAt (lineSeparators e h) i < binAt (lineSeparators e h) (suc i)
+  pub rising : Rising (lineSeparators e h)
 
 -- a ring of `bins` bins whose modes are ss; `read` gives the bins of its stretches, read round
 pub record FinishedRound (e : Closeness) (read : Reader) (bins : ℕ) (ss : List Segment) : Type 0 where
@@ -93,11 +92,6 @@ pub record RingFinished (e : Closeness) (h : List ℕ) : Type 0 where
   -- each separator is such a bin, for it is the lowest of all or lower than the one before it
   pub low : (m : ℕ) → m < length (ringModes e h) → 2 * binAt h (ringBin h (segmentAt (ringModes e h) m .start)) ≤ total h
 
--- R8: the list is a permutation of the ring's separators, and has none of them twice
-pub record ListsOnce (e : Closeness) (h : List ℕ) (list : List ℕ) : Type 0 where
-  pub same : (b : ℕ) → countIf (eqb b) list ≡ countIf (eqb b) (ringSeparators e h)
-  pub once : (b : ℕ) → countIf (eqb b) list ≤ 1
-
 -- proved in proofs/Always. The bounds are those of a line call and of the opened line of a ring call
 abbrev pub AlwaysFinished : Type 0
 AlwaysFinished = (e : Closeness) (h : List ℕ) → 2 ≤ length h → length h ≤ mostBins → total h ≤ mostCounts → LineFinished e h
@@ -105,7 +99,3 @@ AlwaysFinished = (e : Closeness) (h : List ℕ) → 2 ≤ length h → length h 
 -- proved in proofs/Always
 abbrev pub RingAlwaysFinished : Type 0
 RingAlwaysFinished = (e : Closeness) (h : List ℕ) → 2 ≤ length h → length h ≤ mostRingBins → total h ≤ mostRingCounts → RingFinished e h
-
--- proved in proofs/Always: the ring's separators, in the order from the opening, are such a list
-abbrev pub RingAlwaysListed : Type 0
-RingAlwaysListed = (e : Closeness) (h : List ℕ) → 2 ≤ length h → ListsOnce e h (ringSeparators e h)

@@ -1,14 +1,14 @@
 // The modes of a line of bins and of a ring. The first segments are cut at the valleys; they are joined as long as a run of them is joinable.
 mod first;
 mod joins;
-mod listing;
+mod modes;
 mod rings;
 mod rounds;
 mod runs;
 
-pub use listing::line_separators;
-pub use listing::ring_modes;
-pub use listing::ring_separators;
+pub use modes::MOST_RING_BINS;
+pub use modes::line_separators;
+pub use modes::ring_modes;
 
 // A run of len segments, from segment number `first` on, that may be joined: whether by its rise or by its fall, and at what cost.
 pub struct Join {

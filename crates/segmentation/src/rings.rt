@@ -1,12 +1,11 @@
-// The ring: its opening, its turns from there on, its modes, and their places by the ring's own bin numbers.
+// The ring: its opening, its turns from there on, and its modes.
 use crate::first::first_segments;
 use crate::joins::join_all;
 use crate::rounds::join_round;
 use logarithm::copied_sheet;
 ghost use mathlib.Core.Path.{_≡_};
-ghost use mathlib.Core.List.{map};
-ghost use Prim.Native.Nat.{_+_, _*_, _%_, _≤_, _<_};
-ghost use lib.ListN.{length, take};
+ghost use Prim.Native.Nat.{_+_, _*_, _≤_};
+ghost use lib.ListN.{length};
 ghost use Rattle.lists.specs.Lists.{total, over};
 ghost use Rattle.pooling.specs.Limits.{mostRingBins, mostRingCounts, mostBins};
 ghost use Rattle.verdict.specs.Settings.{lastSetting, closenessOf};
@@ -65,18 +64,4 @@ pub fn ring(
     let sheet = copied_sheet();
     let left = join_all(&sheet, &round[..end], setting, separators, peaks, n);
     join_round(&sheet, round, setting, separators, peaks, left, bins)
-}
-
-// Writes the bins at the first n places, by the ring's own numbers, into the first places of `out`.
-pub fn ring_numbers(places: &[u32], n: usize, opening: usize, bins: usize, out: &mut [u32])
-    requires { ⌜ (n ≤ length (now places)) × (n ≤ length (now out)) ⌝ }
-    requires { ⌜ (opening < bins) × (bins ≤ mostRingBins) ⌝ }
-    ensures { λ _. ⌜ now (out .exit) ≡ over (map (λ s. (opening + s) % bins) (take n (now (places .entry)))) (now (out .entry)) ⌝ }
-{
-    let mut i = 0;
-    while i < n {
-        let bin = (opening + places[i] as usize) % bins;
-        out[i] = bin as u32;
-        i += 1;
-    }
 }

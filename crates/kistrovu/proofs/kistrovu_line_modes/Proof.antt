@@ -5,12 +5,12 @@ use lib.ListN.{length}
 use mir.Syntax.{w32}
 use mir.Val.{toZ, ofZ}
 use mir.ValLaws.{toZ-ofZ}
-use Rattle.lists.specs.Lists.{over}
 use Rattle.verdict.specs.Test.{Closeness}
 use Rattle.verdict.specs.Settings.{closenessOf}
 use Rattle.segmentation.specs.Joining.{lineSeparators}
 use Rattle.kistrovu.specs.Grounds.{modesNumber}
-use Rattle.kistrovu.proofs.Modes.{modes-accepted, modes-small, line-served, line-listed, line-finished, line-turned-down, line-as-lent}
+use Rattle.kistrovu.specs.Answers.{lineAnswer, lineList}
+use Rattle.kistrovu.proofs.Modes.{modes-accepted, modes-small, line-finished, modes-listed, modes-turned-down}
 use Rattle.kistrovu.proofs.kistrovu_line_modes.Statement.{statement}
 use Rattle.kistrovu.proofs.kistrovu_line_modes.Tie as tie
 
@@ -28,13 +28,12 @@ number c =
     c .modes-number .ensures ∙ ap (λ (e : Closeness). modesNumber e (s .args .histogram .now) (length (s .args .separators .now))) (as-given s)
 
 returns : tie.Need-returns
+unfolding lineAnswer lineList
 returns c =
     let m = c .before in
-    let s = m .before .before .before in (
-      line-turned-down (s .args .closeness) (s .args .histogram .now) (s .args .separators .now) _ (number m) (c .if1 .taken),
-      line-as-lent (s .args .closeness) (s .args .histogram .now) (s .args .separators .now) _ (number m) (c .if1 .taken),
-      λ z. absurd (c .if1 .taken z),
-    )
+    let s = m .before .before .before in
+    let down = modes-turned-down (s .args .closeness) (s .args .histogram .now) (s .args .separators .now) _ (number m) lineSeparators (c .if1 .taken) in
+    (down .answer, down .left, λ z. absurd (c .if1 .taken z))
 
 setting-of-requires : tie.Need-setting-of-requires
 setting-of-requires c κs =
@@ -53,6 +52,7 @@ same-length : tie.Need-same-length
 same-length c = search needs
 
 returns-2 : tie.Need-returns-2
+unfolding lineAnswer lineList
 returns-2 c =
     let f = c .before .before .line-separators in
     let setting = c .before .before .before .before in
@@ -60,11 +60,8 @@ returns-2 c =
     let s = m .before .before .before in
     let z = setting .before .if1 .left in
     let is : closenessOf (setting .setting-of .result) ≡ s .args .closeness = setting .setting-of .ensures .1 ∙ as-given s in
-    let count = f .ensures .0 ∙ ap (λ (e : Closeness). length (lineSeparators e (s .args .histogram .now))) is in (
-      line-served (s .args .closeness) (s .args .histogram .now) (s .args .separators .now) _ (number m) z _ count,
-      line-listed (s .args .closeness) (s .args .histogram .now) (s .args .separators .now) _ (number m) z _ (f .ensures .1 ∙ ap (λ (e : Closeness). over (lineSeparators e (s .args .histogram .now)) (s .args .separators .now)) is),
-      λ u. line-finished (s .args .closeness) (s .args .histogram .now) (s .args .separators .now) _ (number m) z,
-    )
+    let listed = modes-listed (s .args .closeness) (s .args .histogram .now) (s .args .separators .now) _ (number m) lineSeparators z _ is _ _ (f .ensures .0) (f .ensures .1) in
+    (listed .answer, listed .left, λ u. line-finished (s .args .closeness) (s .args .histogram .now) (s .args .separators .now) _ (number m) z)
 
 pub kistrovu-line-modes-spec : {M : Type 1} → statement M
 kistrovu-line-modes-spec =

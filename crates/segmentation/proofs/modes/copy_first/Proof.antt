@@ -7,8 +7,8 @@ use borrow.Author.Needs.{needs}
 use lib.ListN.{length, take, getD, set, length-set}
 use Rattle.lists.specs.Lists.{over}
 use Rattle.lists.proofs.Buffers.{over-none, over-take}
-use Rattle.segmentation.proofs.listing.copy_first.Statement.{statement}
-use Rattle.segmentation.proofs.listing.copy_first.Tie as tie
+use Rattle.segmentation.proofs.modes.copy_first.Statement.{statement}
+use Rattle.segmentation.proofs.modes.copy_first.Tie as tie
 
 abbrev Inv-loop : tie.InvT-loop
 Inv-loop source n list₀ i₀ list i = (i ≤ n) × (length list ≡ length list₀) × (list ≡ over (take i source) list₀)

@@ -11,8 +11,8 @@ use Rattle.verdict.specs.Settings.{closenessOf}
 use Rattle.segmentation.specs.Ring.{twoTurns}
 use Rattle.segmentation.proofs.TwoTurns.{turns-length}
 use Rattle.segmentation.proofs.Listed.{ring-held-count, ring-held-starts, ring-modes-most}
-use Rattle.segmentation.proofs.listing.ring_modes.Statement.{statement}
-use Rattle.segmentation.proofs.listing.ring_modes.Tie as tie
+use Rattle.segmentation.proofs.modes.ring_modes.Statement.{statement}
+use Rattle.segmentation.proofs.modes.ring_modes.Tie as tie
 
 -- ---- the ways to the function's entry, and from the modes to the turns
 abbrev entry : tie.After-write-turns → tie.Start

@@ -8,8 +8,8 @@ use Rattle.lists.specs.Lists.{over}
 use Rattle.verdict.specs.Settings.{closenessOf}
 use Rattle.segmentation.proofs.Listed.{listed-count, line-listed, line-listed-length}
 use borrow.Author.Needs.{needs}
-use Rattle.segmentation.proofs.listing.line_separators.Statement.{statement}
-use Rattle.segmentation.proofs.listing.line_separators.Tie as tie
+use Rattle.segmentation.proofs.modes.line_separators.Statement.{statement}
+use Rattle.segmentation.proofs.modes.line_separators.Tie as tie
 
 slice-aggregate-line : tie.Need-slice-aggregate-line
 slice-aggregate-line c = search needs

@@ -1,9 +1,8 @@
-// The separators of a line and of a ring, in the first places of a lent list.
+// The separators of a line, and where the modes of a ring start, in the first places of a lent list.
 use crate::Opened;
 use crate::joins::line;
 use crate::rings::lowest_bin;
 use crate::rings::ring;
-use crate::rings::ring_numbers;
 use crate::rings::write_turns;
 use pooling::MOST_BINS;
 ghost use mathlib.Core.Path.{_≡_};
@@ -14,10 +13,10 @@ ghost use Rattle.lists.specs.Lists.{total, over};
 ghost use Rattle.verdict.specs.Settings.{lastSetting, closenessOf};
 ghost use Rattle.pooling.specs.Limits.{mostRingBins, mostRingCounts, Small};
 ghost use Rattle.segmentation.specs.Joining.{lineSeparators};
-ghost use Rattle.segmentation.specs.Ring.{opening, ringModes, ringSeparators};
+ghost use Rattle.segmentation.specs.Ring.{opening, ringModes};
 
 // The bins of the largest ring, of two turns of it, and as many members as are held of its modes twice over.
-const MOST_RING_BINS: usize = MOST_BINS - 1;
+pub const MOST_RING_BINS: usize = MOST_BINS - 1;
 
 const TWO_TURNS: usize = MOST_RING_BINS + MOST_RING_BINS;
 
@@ -68,17 +67,4 @@ pub fn ring_modes(h: &[u32], setting: u32, places: &mut [u32]) -> Opened
         opening: opening,
         modes: n,
     }
-}
-
-// Writes the separators of a ring, from its opening on. Returns how many there are.
-pub fn ring_separators(h: &[u32], setting: u32, list: &mut [u32]) -> u32
-    requires { ⌜ (2 ≤ length (now h)) × (length (now h) ≤ mostRingBins) × (total (now h) ≤ mostRingCounts) ⌝ }
-    requires { ⌜ (setting ≤ lastSetting) × (length (now h) ≤ length (now list)) ⌝ }
-    ensures { λ r. ⌜ (r ≡ length (ringSeparators (closenessOf setting) (now (h .entry))))
-        × (now (list .exit) ≡ over (ringSeparators (closenessOf setting) (now (h .entry))) (now (list .entry))) ⌝ }
-{
-    let mut places = [0u32; MOST_RING_BINS];
-    let found = ring_modes(h, setting, &mut places);
-    ring_numbers(&places, found.modes, found.opening, h.len(), list);
-    found.modes as u32
 }

@@ -1,0 +1,2 @@
+pub mod Rotated
+pub mod Ordered
