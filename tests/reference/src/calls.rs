@@ -101,7 +101,7 @@ pub fn line_modes(histogram: &[u32], closeness: i32, list: &mut [u32]) -> ModesA
     modes(histogram, closeness, list, lines::separators)
 }
 
-/// The list's order is open; this one is that of the modes, from the opening on.
+/// The list goes from the lowest bin number up, wherever the ring opens and its modes begin to number.
 pub fn ring_modes(histogram: &[u32], closeness: i32, list: &mut [u32]) -> ModesAnswer {
     ring_modes_and_joins(histogram, closeness, list).0
 }

@@ -68,7 +68,7 @@ const INTENSITY: Level = Level {
 
 fn ring_starts(counts: &[u64], closeness: i32) -> (Vec<usize>, RoundJoins) {
     let ring = rings::finished(counts, closeness);
-    (ring.separators(), ring.joins)
+    (ring.starts(), ring.joins)
 }
 
 /// Nothing is joined round a line.
@@ -218,9 +218,45 @@ mod tests {
     fn the_last_mode_of_a_ring_goes_on_past_the_opening() {
         let counts = [2, 20, 2, 2, 2, 13, 1, 20, 2, 2];
         assert_eq!(rings::opening(&counts), 6);
-        let starts = rings::separators(&counts, 3);
+        let starts = rings::finished(&counts, 3).starts();
         assert_eq!(starts, [8, 2]);
         let modes: Vec<usize> = (0..10).map(|bin| mode_of(bin, &starts, 10)).collect();
         assert_eq!(modes, [0, 0, 1, 1, 1, 1, 1, 1, 0, 0]);
+    }
+
+    /// The first ring opens at bin 1, which is no separator; the next two at bin 3, the last at bin 2.
+    #[test]
+    fn the_list_of_a_ring_does_not_renumber_its_modes() {
+        let rings: [(i32, &[u64], &[usize], &[usize]); 4] = [
+            (
+                1,
+                &[94, 78, 144, 78, 143, 78, 78, 118, 78],
+                &[3, 5],
+                &[1, 1, 1, 0, 0, 1, 1, 1, 1],
+            ),
+            (0, &[9, 1, 9, 0, 9, 0], &[1, 3, 5], &[1, 2, 2, 0, 0, 1]),
+            (
+                0,
+                &[2, 50, 9, 0, 50, 3, 60],
+                &[0, 3, 5],
+                &[2, 2, 2, 0, 0, 1, 1],
+            ),
+            (
+                0,
+                &[1, 20, 0, 20, 0, 20, 0, 21],
+                &[0, 2, 4, 6],
+                &[3, 3, 0, 0, 1, 1, 2, 2],
+            ),
+        ];
+        for (closeness, counts, list, modes) in rings {
+            let ring = rings::finished(counts, closeness);
+            assert_eq!(ring.separators(), list, "{counts:?}");
+            let starts = ring.starts();
+            let bins = 0..counts.len();
+            let found: Vec<usize> = bins
+                .map(|bin| mode_of(bin, &starts, counts.len()))
+                .collect();
+            assert_eq!(found, modes, "{counts:?}");
+        }
     }
 }

@@ -25,6 +25,9 @@ pub struct RoundJoins {
     pub past_the_opening: usize,
     /// How many modes the longest of the runs had that were joined, 0 if none was.
     pub longest: usize,
+    /// No join, but told with them: whether the modes are in another order than the list of their separators, which
+    /// goes from bin 0 and not from the opening.
+    pub rotated: bool,
 }
 
 /// A ring with nothing left to join: its modes, mode 0 being the first to start at the opening or after it, and the
@@ -36,9 +39,16 @@ pub struct Finished {
 }
 
 impl Finished {
-    /// Where the modes start, by number.
-    pub fn separators(&self) -> Vec<usize> {
+    /// Where the modes start, in the order of the modes: from the opening on.
+    pub fn starts(&self) -> Vec<usize> {
         self.modes.iter().map(|mode| mode.separator).collect()
+    }
+
+    /// The same bins as the call lists them: from the lowest number up. No mode has its number from this list.
+    pub fn separators(&self) -> Vec<usize> {
+        let mut list = self.starts();
+        list.sort_unstable();
+        list
     }
 }
 
@@ -56,7 +66,7 @@ struct Join {
     left: Mode,
 }
 
-/// Where the modes start, by number.
+/// Where the modes start, as the call lists it.
 pub fn separators(counts: &[u64], closeness: i32) -> Vec<usize> {
     finished(counts, closeness).separators()
 }
@@ -81,6 +91,7 @@ pub fn finished(counts: &[u64], closeness: i32) -> Finished {
         joins.longest = joins.longest.max(run.len);
         modes = joined(counts, &modes, run, left);
     }
+    joins.rotated = !modes.is_sorted_by_key(|mode| mode.separator);
     Finished { modes, joins }
 }
 
@@ -226,16 +237,18 @@ mod tests {
         rings
     }
 
-    /// Hands on each small ring with its modes, at each closeness, and sees to it that some were joined round the ring.
+    /// Hands on each small ring with its modes, at each closeness, and sees to it that some were joined round the ring,
+    /// and that the order of the modes is not that of the list on some.
     fn each_small_ring(visit: impl Fn(&[u64], i32, &[Mode])) {
         for closeness in CLOSENESSES {
-            let mut joined = 0;
+            let (mut joined, mut rotated) = (0, 0);
             for counts in small_rings() {
                 let Finished { modes, joins } = finished(&counts, closeness);
                 visit(&counts, closeness, &modes);
                 joined += joins.all;
+                rotated += usize::from(joins.rotated);
             }
-            assert!(joined > 0, "at {closeness}");
+            assert!(joined > 0 && rotated > 0, "at {closeness}");
         }
     }
 
@@ -504,11 +517,30 @@ mod tests {
     }
 
     #[test]
-    fn each_separator_is_listed_once_in_the_order_from_the_opening() {
+    fn modes_start_in_the_order_from_the_opening() {
         each_small_ring(|counts, closeness, modes| {
             let bins = (0..counts.len()).map(|step| (opening(counts) + step) % counts.len());
             let met = bins.filter(|&bin| modes.iter().any(|mode| mode.separator == bin));
+            assert!(met.eq(finished(counts, closeness).starts()), "{counts:?}");
+        });
+    }
+
+    #[test]
+    fn each_separator_is_listed_once_from_the_lowest_bin_up() {
+        each_small_ring(|counts, closeness, modes| {
+            let is_separator = |bin: &usize| modes.iter().any(|mode| mode.separator == *bin);
+            let met = (0..counts.len()).filter(is_separator);
             assert!(met.eq(separators(counts, closeness)), "{counts:?}");
+        });
+    }
+
+    /// Those that start at the opening or after it come first among the modes, and last in the list.
+    #[test]
+    fn a_ring_is_rotated_if_modes_start_on_both_sides_of_the_opening() {
+        each_small_ring(|counts, closeness, modes| {
+            let before = |mode: &Mode| mode.separator < opening(counts);
+            let both = modes.iter().any(before) && !modes.iter().all(before);
+            assert_eq!(joins(counts, closeness).rotated, both, "{counts:?}");
         });
     }
 

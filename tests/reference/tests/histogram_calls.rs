@@ -150,6 +150,24 @@ fn a_ring_of_two_bins_counts_its_lowest_twice() {
     assert_eq!(list, [0, 9]);
 }
 
+/// The last two open at bin 3, the first at bin 1, where no mode starts. The places behind the separators stay as lent.
+#[test]
+fn a_ring_is_listed_from_the_lowest_bin_up() {
+    let rings: [(i32, &[u32], &[u32]); 3] = [
+        (1, &[94, 78, 144, 78, 143, 78, 78, 118, 78], &[3, 5]),
+        (0, &[9, 1, 9, 0, 9, 0], &[1, 3, 5]),
+        (0, &[2, 50, 9, 0, 50, 3, 60], &[0, 3, 5]),
+    ];
+    for (closeness, histogram, separators) in rings {
+        let mut list = [99; 10];
+        let answer = ring_modes(histogram, closeness, &mut list);
+        let count = separators.len();
+        assert_eq!((answer.number, answer.separators as usize), (0, count));
+        assert_eq!(list[..count], *separators);
+        assert_eq!(list[count..], [99; 10][count..]);
+    }
+}
+
 /// The two calls answer alike; the joins are told of what is served only.
 #[test]
 fn a_ring_is_told_with_its_joins() {
