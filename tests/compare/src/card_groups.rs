@@ -68,12 +68,14 @@ const LEAST_OF_RINGS: Least = Least {
     again: 20,
     divided: 200,
     long: 2,
+    rotated: 15,
 };
 const LEAST_OF_HUES_LEFT_OUT: Least = Least {
     joined: 500,
     again: 0,
     divided: 400,
     long: 0,
+    rotated: 0,
 };
 
 impl CardSource {
@@ -95,7 +97,7 @@ impl CardSource {
         }
     }
 
-    /// How many joins round the ring of hues the group is to have.
+    /// How many joins round the ring of hues, and hue modes not in the order of bin numbers, the group is to have.
     pub fn least(&self) -> Option<&Least> {
         match self {
             List(_) | Draw(..) => None,

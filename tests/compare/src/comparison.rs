@@ -231,14 +231,12 @@ pub fn modes(form: Form, case: &ModesCase, tally: &mut Tally) -> Result<(), Diff
         format!("modes, {form}, closeness {closeness}, {places} places, of {bins}")
     };
     let count = expected.separators as usize;
-    if let Form::Ring = form {
-        // The order of a ring's separators is open: both sides are put into one order.
-        list[..count].sort_unstable();
-        expected_list[..count].sort_unstable();
-        tally.several += u64::from(count > 1);
-    } else {
-        tally.several += u64::from(count > 2);
-    }
+    let of_one_mode = match form {
+        // The end of a line is a separator too.
+        Form::Line => 2,
+        Form::Ring => 1,
+    };
+    tally.several += u64::from(count > of_one_mode);
     same(input, (expected.into_raw(), expected_list), (answer, list))?;
     same(|| format!("histogram after {}", input()), histogram, &lent)
 }

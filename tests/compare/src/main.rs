@@ -9,8 +9,8 @@
 //! Without arguments the run is the same every time: all pixels, the listed histograms, lines, rings, swatches and texts,
 //! and random ones: `COUNT` histograms, and the shares of `COUNT` that the lists of groups give. Each group prints a
 //! line; at the first difference a group ends with the input and both answers. A group of rings or swatches made for joins
-//! round the ring also fails if it has too few of them. The last line is the number of groups passed and failed, and the
-//! exit code is 1 if one failed.
+//! round the ring, or for modes that are not in the order of bin numbers, also fails if it has too few of them. The last
+//! line is the number of groups passed and failed, and the exit code is 1 if one failed.
 
 use cloths::random::Random;
 use compare::card_groups::CARDS;
@@ -209,7 +209,7 @@ impl Run<'_> {
     }
 }
 
-/// Where nothing differs, there are to be enough joins round the ring.
+/// Where nothing differs, there are to be enough joins round the ring, and enough modes not in the order of bin numbers.
 fn judged(
     outcome: Result<(), Difference>,
     least: Option<&Least>,

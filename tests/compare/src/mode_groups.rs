@@ -26,9 +26,11 @@ pub enum ModesSource {
     JoinedList(fn(&mut Random) -> Vec<ModesCase>, Least),
     /// Drawn from one shape made for joins round the ring; how many, in hundredths of the count.
     JoinedDraw(Shape, usize, Least),
+    /// Drawn from one shape made for modes that are not in the order of bin numbers; how many, in hundredths of the count.
+    RotatedDraw(Shape, usize, Least),
 }
 
-use ModesSource::{Draw, JoinedDraw, JoinedList, List};
+use ModesSource::{Draw, JoinedDraw, JoinedList, List, RotatedDraw};
 
 /// The groups that lines and rings share.
 pub const BOTH: [(&str, ModesSource); 11] = [
@@ -65,7 +67,10 @@ pub const RINGS: [(&str, ModesSource); 18] = [
         "flat lowest over the seam",
         Draw(mode_shapes::lowest_over_the_seam, 6),
     ),
-    ("opened away from 0", Draw(mode_shapes::turned, 6)),
+    (
+        "opened away from 0",
+        RotatedDraw(mode_shapes::turned, 6, LEAST_OF_TURNED),
+    ),
     ("few levels", Draw(mode_shapes::few_levels, 4)),
     ("noise", Draw(shapes::noise, 3)),
     ("sparse", Draw(shapes::sparse, 2)),
@@ -108,69 +113,88 @@ pub const RINGS: [(&str, ModesSource); 18] = [
 ];
 
 // Well below what the run without arguments has, so that another seed does not fall below by chance.
+const LEAST_OF_TURNED: Least = Least {
+    joined: 0,
+    again: 0,
+    divided: 0,
+    long: 0,
+    rotated: 75,
+};
 const LEAST_OF_FLAT_HUMPS: Least = Least {
     joined: 300,
     again: 15,
     divided: 100,
     long: 10,
+    rotated: 20,
 };
 const LEAST_OF_SLOPING_HUMPS: Least = Least {
     joined: 200,
     again: 10,
     divided: 50,
     long: 12,
+    rotated: 14,
 };
 const LEAST_OF_SPIKES: Least = Least {
     joined: 400,
     again: 60,
     divided: 30,
     long: 15,
+    rotated: 0,
 };
 const LEAST_OF_FEW_LEVELS: Least = Least {
     joined: 300,
     again: 5,
     divided: 20,
     long: 2,
+    rotated: 3,
 };
 const LEAST_OF_MIRROR_IMAGES: Least = Least {
     joined: 120,
     again: 10,
     divided: 25,
     long: 5,
+    rotated: 30,
 };
 const LEAST_OF_SAMPLES: Least = Least {
     joined: 200,
     again: 50,
     divided: 50,
     long: 20,
+    rotated: 80,
 };
 const LEAST_AT_EVERY_CLOSENESS: Least = Least {
     joined: 200,
     again: 15,
     divided: 100,
     long: 0,
+    rotated: 50,
 };
 const LEAST_OF_THE_LONGEST: Least = Least {
     joined: 450,
     again: 30,
     divided: 250,
     long: 2,
+    rotated: 50,
 };
 
 impl ModesSource {
     pub fn cases(&self, random: &mut Random, count: usize) -> Vec<ModesCase> {
         match self {
             List(list) | JoinedList(list, _) => list(random),
-            Draw(shape, share) => draw(random, count * share / 100, *shape),
+            Draw(shape, share) | RotatedDraw(shape, share, _) => {
+                draw(random, count * share / 100, *shape)
+            }
             JoinedDraw(shape, share, _) => draw_joined(random, count * share / 100, *shape),
         }
     }
 
-    /// How many joins round the ring the group is to have.
+    /// How many joins round the ring, and modes not in the order of bin numbers, the group is to have.
     pub fn least(&self) -> Option<&Least> {
         match self {
             List(_) | Draw(..) => None,
-            JoinedList(_, least) | JoinedDraw(_, _, least) => Some(least),
+            JoinedList(_, least) | JoinedDraw(_, _, least) | RotatedDraw(_, _, least) => {
+                Some(least)
+            }
         }
     }
 }

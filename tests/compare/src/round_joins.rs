@@ -1,10 +1,11 @@
 //! How many rings were joined round the ring, and how many there have to be: a group of rings that are made for such
-//! joins compares nothing of them once it has none.
+//! joins compares nothing of them once it has none. And how many have modes that are not in the order of bin numbers: on
+//! no other ring does it show if the list of its separators goes from the opening, or if a card is made from that list.
 
 use crate::comparison::Failure;
 use reference::rings::RoundJoins;
 
-/// Rings, or hue rings of cards, by their joins round the ring.
+/// Rings, or hue rings of cards, by their joins round the ring and by the order of their modes.
 #[derive(Default)]
 pub struct RoundTally {
     pub rings: u64,
@@ -15,6 +16,8 @@ pub struct RoundTally {
     pub divided: u64,
     /// With a run of three modes or more that was joined.
     pub long: u64,
+    /// With modes that are not in the order of bin numbers, which is that of the list.
+    pub rotated: u64,
 }
 
 impl RoundTally {
@@ -24,12 +27,14 @@ impl RoundTally {
         self.again += u64::from(joins.all > 1);
         self.divided += u64::from(joins.all > 0 && modes_left > 1);
         self.long += u64::from(joins.longest > 2);
+        self.rotated += u64::from(joins.rotated);
     }
 
     pub fn told(&self) -> String {
         format!(
-            "{} joined round the ring, {} of them more than once, {} into several modes, {} by runs of 3 or more",
-            self.joined, self.again, self.divided, self.long
+            "{} joined round the ring, {} of them more than once, {} into several modes, {} by runs of 3 or more; \
+            {} with modes not in the order of bin numbers",
+            self.joined, self.again, self.divided, self.long, self.rotated
         )
     }
 }
@@ -40,6 +45,7 @@ pub struct Least {
     pub again: u64,
     pub divided: u64,
     pub long: u64,
+    pub rotated: u64,
 }
 
 /// Of fewer rings the shares can be small by chance, so nothing is asked of them.
@@ -55,6 +61,11 @@ impl Least {
             ("joined more than once", self.again, tally.again),
             ("joined into several modes", self.divided, tally.divided),
             ("joined by runs of 3 or more", self.long, tally.long),
+            (
+                "with modes not in the order of bin numbers",
+                self.rotated,
+                tally.rotated,
+            ),
         ] {
             let least = least * tally.rings / 1000;
             if found < least {
@@ -77,26 +88,29 @@ mod tests {
         again: 200,
         divided: 100,
         long: 2,
+        rotated: 50,
     };
 
-    fn tally(joined: u64, again: u64, divided: u64, long: u64) -> RoundTally {
+    fn tally(joined: u64, again: u64, divided: u64, long: u64, rotated: u64) -> RoundTally {
         RoundTally {
             rings: 1000,
             joined,
             again,
             divided,
             long,
+            rotated,
         }
     }
 
     #[test]
     fn each_number_can_be_too_small() {
-        assert!(LEAST.check(&tally(500, 200, 100, 2)).is_ok());
+        assert!(LEAST.check(&tally(500, 200, 100, 2, 50)).is_ok());
         for too_few in [
-            tally(499, 200, 100, 2),
-            tally(500, 199, 100, 2),
-            tally(500, 200, 99, 2),
-            tally(500, 200, 100, 1),
+            tally(499, 200, 100, 2, 50),
+            tally(500, 199, 100, 2, 50),
+            tally(500, 200, 99, 2, 50),
+            tally(500, 200, 100, 1, 50),
+            tally(500, 200, 100, 2, 49),
         ] {
             assert!(matches!(LEAST.check(&too_few), Err(Failure::TooFew(_))));
         }
@@ -114,13 +128,19 @@ mod tests {
     }
 
     #[test]
-    fn joins_are_counted_by_kind() {
+    fn rings_are_counted_by_kind() {
         let mut tally = RoundTally::default();
-        for (all, longest, modes_left) in [(0, 0, 3), (1, 2, 1), (2, 3, 2)] {
+        for (all, longest, modes_left, rotated) in [
+            (0, 0, 3, true),
+            (1, 2, 1, false),
+            (2, 3, 2, true),
+            (0, 0, 2, true),
+        ] {
             let joins = RoundJoins {
                 all,
                 past_the_opening: all,
                 longest,
+                rotated,
             };
             tally.count(joins, modes_left);
         }
@@ -130,7 +150,9 @@ mod tests {
             again,
             divided,
             long,
+            rotated,
         } = tally;
-        assert_eq!([rings, joined, again, divided, long], [3, 2, 1, 1, 1]);
+        let counted = [rings, joined, again, divided, long, rotated];
+        assert_eq!(counted, [4, 2, 1, 1, 1, 3]);
     }
 }
