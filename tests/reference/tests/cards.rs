@@ -123,44 +123,19 @@ fn hues_number_from_the_opening() {
     assert_eq!(card.labels[119], 0);
 }
 
-/// A colour of each hue bin but 30, where the ring opens, and many more of bins 20 and 59. The modes start at bin 30 and
-/// at bin 0, so in the list of the ring's separators they would be the other way round.
+/// Hue bins 0 to 2, of which bin 1 is a valley; the ring opens at bin 3. Its modes start there and at bin 1, so in the
+/// list of its separators they are the other way round.
 #[test]
-fn hues_do_not_number_from_bin_0() {
-    const OPENING: u8 = 30;
-    let of_hue = |bin: u8| {
-        (0..=u8::MAX)
-            .flat_map(full_colours)
-            .find(|&p| hue(p) == bin)
-    };
-    let mut pixels = Vec::new();
-    for bin in (0..60).filter(|&bin| bin != OPENING) {
-        let pixel = of_hue(bin).expect("each hue bin has a full colour");
-        let count = if [20, 59].contains(&bin) { 40 } else { 1 };
-        pixels.extend(vec![pixel; count]);
-    }
-    let card = card(&pixels, 0);
+fn hues_do_not_number_as_separators_are_listed() {
+    let greens = [([100, 200, 0], 60), ([75, 200, 0], 2), ([60, 200, 0], 60)];
+    assert_eq!(
+        greens.map(|([r, g, b], _)| measures(r, g, b).hue),
+        [0, 1, 2]
+    );
+    let card = card(&repeated(&greens), 0);
+    let hues = card.labels.iter().map(|&label| card.entries[label].hue);
+    assert!(hues.eq([vec![0; 60], vec![1; 62]].concat()));
     assert!(card.hue_joins.rotated);
-    for (pixel, &label) in pixels.iter().zip(&card.labels) {
-        let mode = u8::from(hue(*pixel) < OPENING);
-        assert_eq!(card.entries[label].hue, mode, "{pixel:?}");
-    }
-}
-
-fn hue([red, green, blue]: Pixel) -> u8 {
-    measures(red, green, blue).hue
-}
-
-/// One channel is full, one empty, and one in between.
-fn full_colours(between: u8) -> [Pixel; 6] {
-    [
-        [255, between, 0],
-        [255, 0, between],
-        [between, 255, 0],
-        [0, 255, between],
-        [between, 0, 255],
-        [0, between, 255],
-    ]
 }
 
 /// Hue bins 59 and 0 are one hump over the ring's seam, between empty bins; bins 29 and 30 another.
