@@ -96,7 +96,7 @@ pub fn engine(call: &Call) -> Answer {
             let mut list = given.list.clone();
             let call = |lent: &mut [u32]| engine::ring_modes(lent, given.closeness, &mut list);
             let a = lent(&given.histogram, call);
-            modes_answer(a.number, a.separators, sorted(list, a.separators))
+            modes_answer(a.number, a.separators, list)
         }
         Call::Card {
             pixels,
@@ -147,7 +147,7 @@ pub fn reference(call: &Call) -> Answer {
         Call::RingModes(given) => {
             let mut list = given.list.clone();
             let a = second::ring_modes(&given.histogram, given.closeness, &mut list);
-            modes_answer(a.number, a.separators, sorted(list, a.separators))
+            modes_answer(a.number, a.separators, list)
         }
         Call::Card {
             pixels,
@@ -176,13 +176,6 @@ fn lent<T: Clone + PartialEq, A>(values: &[T], call: impl FnOnce(&mut [T]) -> A)
     let answer = call(&mut lent);
     assert!(lent == values, "the engine wrote to what it may only read");
     answer
-}
-
-/// The order of a ring's separators is open, so they are put into one.
-fn sorted(mut list: Vec<u32>, separators: u32) -> Vec<u32> {
-    let count = list.len().min(separators as usize);
-    list[..count].sort_unstable();
-    list
 }
 
 fn measures_answer(number: u32, bins: [u8; 3], grey: impl Into<i64>) -> Answer {

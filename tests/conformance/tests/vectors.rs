@@ -1,8 +1,9 @@
 //! The kit as stored: it is what the maker makes, and read back it holds for both implementations.
 
-use conformance::calls::{engine, reference, Answer, Call};
+use conformance::calls::{engine, reference, Answer, Call, Listing};
 use conformance::files::made;
 use conformance::kept::{cases, folder, FORMAT};
+use reference::rings::opening;
 use std::collections::BTreeMap;
 use std::fs;
 
@@ -35,6 +36,8 @@ const LEAST: [Least; 8] = [
     ),
     ("print_ground", 50, &[(0, 50)]),
 ];
+/// The fewest rings whose list is not in the order from the opening.
+const LEAST_ROTATED: usize = 30;
 /// The most bytes of a file, so that it can be read.
 const MOST_BYTES: usize = 300_000;
 
@@ -128,6 +131,26 @@ fn every_ground_is_met_often_enough() {
             );
         }
     }
+}
+
+/// Whether separators lie on both sides of the opening: only then does it show if a list goes from there.
+fn is_rotated(given: &Listing, answer: &Answer) -> bool {
+    let counts: Vec<u64> = given.histogram.iter().map(|&count| count.into()).collect();
+    let separators = answer[1].values[0] as usize;
+    let list = &answer[2].values[..separators];
+    let before = |&bin: &i64| bin < opening(&counts) as i64;
+    list.iter().any(before) && !list.iter().all(before)
+}
+
+#[test]
+fn many_rings_are_not_listed_from_the_opening() {
+    let kept = cases("ring_modes", &kept_text("ring_modes")).expect("ring_modes");
+    let rotated = kept.iter().filter(|case| match &case.call {
+        Call::RingModes(given) => is_rotated(given, &case.answer),
+        _ => false,
+    });
+    let rotated = rotated.count();
+    assert!(rotated >= LEAST_ROTATED, "{rotated}");
 }
 
 #[test]

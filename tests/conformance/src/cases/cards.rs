@@ -184,6 +184,15 @@ const RULES: &[Rule] = &[
         ],
     ),
     (
+        "hues number from the ring's opening, bin 3; an engine that numbers them as the separators are listed swaps the two",
+        0,
+        &[
+            ([100, 200, 0], 60),
+            ([75, 200, 0], 2),
+            ([60, 200, 0], 60),
+        ],
+    ),
+    (
         "one hue of two saturations",
         0,
         &[([120, 100, 100], 50), ([200, 40, 40], 50)],

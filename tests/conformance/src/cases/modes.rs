@@ -85,8 +85,10 @@ pub fn rings() -> Vec<Case> {
     all.extend(common(&[20, 0, 20, 0]));
     all.extend(for_rules(RING_RULES));
     all.extend(for_rules(rounds::ROUND_RULES));
-    let round = rounds::rings().into_iter();
+    let round = rounds::rings().into_iter().chain(rounds::longest_lists());
     all.extend(round.map(|(named, closeness)| fitting(named, closeness)));
+    all.extend(for_rules(rounds::LIST_RULES));
+    all.extend(ring_places());
     all.extend(turned());
     all.extend(every_small(&[
         (2, &[0, 1, 20]),
@@ -176,6 +178,40 @@ fn places(two_modes: &[u32]) -> Vec<Asked> {
     .map(|(what, places)| Asked {
         what: what.to_string(),
         histogram: two_modes.to_vec(),
+        closeness: 0,
+        places,
+    })
+    .into()
+}
+
+/// Three modes that start at bins 0, 3 and 5, of a ring that opens at bin 3.
+fn ring_places() -> Vec<Asked> {
+    let ring = [2, 50, 9, 0, 50, 3, 60];
+    [
+        (
+            "a list of a place for each separator: ground 10; an engine that lists 0, 3, 5 there takes that for enough",
+            3,
+        ),
+        (
+            "a list one place short: ground 10; an engine that lists first and looks then has written to it",
+            ring.len() - 1,
+        ),
+        (
+            "a list of as many places as bins: 0, 3, 5; an engine that sorts it to its end moves the rest",
+            ring.len(),
+        ),
+        (
+            "a list one place longer: 0, 3, 5; an engine that sorts it to its end moves the rest",
+            ring.len() + 1,
+        ),
+        (
+            "a list far longer: 0, 3, 5; an engine that sorts it to its end moves the rest",
+            300,
+        ),
+    ]
+    .map(|(what, places)| Asked {
+        what: what.to_string(),
+        histogram: ring.to_vec(),
         closeness: 0,
         places,
     })

@@ -1,7 +1,8 @@
-//! Rings that are joined past their opening.
+//! Rings that are joined past their opening, and rings whose separators show in which order they are listed.
 
 use super::histograms::Named;
 use super::modes::Rule;
+use reference::calls::MOST_BINS;
 
 /// Rings on which an engine that takes runs round the ring in another way gives other separators.
 pub const ROUND_RULES: &[Rule] = &[
@@ -123,6 +124,55 @@ pub const ROUND_RULES: &[Rule] = &[
     ),
 ];
 
+/// Rings on which an engine that lists the separators in another way gives another list.
+pub const LIST_RULES: &[Rule] = &[
+    (
+        "the opening, bin 1, is no separator: listed 3, 5; an engine that lists the opening first has 1, 3, 5",
+        1,
+        &[94, 78, 144, 78, 143, 78, 78, 118, 78],
+    ),
+    (
+        "listed 1, 3, 5; an engine that lists from the opening has 3, 5, 1",
+        0,
+        &[9, 1, 9, 0, 9, 0],
+    ),
+    (
+        "listed 0, 3, 5; an engine that lists from the opening has 3, 5, 0",
+        0,
+        &[2, 50, 9, 0, 50, 3, 60],
+    ),
+    (
+        "listed 0, 2, 4, 6; an engine that lists from the opening has 2, 4, 6, 0",
+        0,
+        &[1, 20, 0, 20, 0, 20, 0, 21],
+    ),
+    (
+        "the only separator is bin 0, and the opening bin 5; an engine that lists places from the opening has 2",
+        2,
+        &[10, 10, 10, 10, 30, 9, 30],
+    ),
+    (
+        "opened at bin 0, listed 0, 2, 4; an engine that lists from the lowest count up has 0, 4, 2",
+        0,
+        &[0, 50, 4, 50, 2, 60],
+    ),
+    (
+        "opened at the last bin, listed 1, 3, 5; an engine that lists from the opening has 5, 1, 3",
+        0,
+        &[50, 3, 60, 2, 50, 0],
+    ),
+    (
+        "the opening, bin 6, is no separator: listed 2, 8; an engine that lists from the opening has 8, 2",
+        3,
+        &[2, 20, 2, 2, 2, 13, 1, 20, 2, 2],
+    ),
+    (
+        "all come before the opening, bin 8: listed 0, 4; an engine that looks for one from bin 8 to 9 finds none",
+        3,
+        &[2, 2, 2, 20, 2, 2, 2, 13, 1, 20],
+    ),
+];
+
 /// With a closeness each.
 pub fn rings() -> Vec<(Named, i32)> {
     let mut all = turned_on();
@@ -161,6 +211,36 @@ fn over_the_opening(bins: usize, opening: usize) -> Vec<u32> {
     };
     let mut ring: Vec<u32> = (0..bins).map(at).collect();
     ring[0] = 3;
+    ring.rotate_right(opening);
+    ring
+}
+
+/// As many bins as there can be, with the opening in their middle and at their end.
+pub fn longest_lists() -> Vec<(Named, i32)> {
+    [128, MOST_BINS - 1]
+        .map(|opening| {
+            let lowest = opening % HUMP;
+            let before = opening - HUMP;
+            let what = format!(
+                "256 bins opened at bin {opening}, listed from bin {lowest} up; \
+                an engine that lists from the opening ends with bin {before}"
+            );
+            ((what, four_humps(opening)), 0)
+        })
+        .into()
+}
+
+/// The bins of each of the four humps.
+const HUMP: usize = MOST_BINS / 4;
+
+/// With a valley before each, the lowest of them at the opening.
+fn four_humps(opening: usize) -> Vec<u32> {
+    let at = |bin: usize| {
+        let place = bin % HUMP;
+        (2 + place.min(HUMP - place)) as u32
+    };
+    let mut ring: Vec<u32> = (0..MOST_BINS).map(at).collect();
+    ring[0] -= 1;
     ring.rotate_right(opening);
     ring
 }
