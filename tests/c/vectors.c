@@ -439,14 +439,8 @@ static bool verdict_holds(const struct reader *reader, size_t *cases)
 
 typedef struct kistrovu_modes_answer modes_call(const uint32_t *, size_t, int32_t, uint32_t *, size_t);
 
-static int by_size(const void *a, const void *b)
-{
-    uint32_t left = *(const uint32_t *)a, right = *(const uint32_t *)b;
-    return (left > right) - (left < right);
-}
-
-/* Of a ring the order is open, so the separators are sorted before they are compared. */
-static bool modes_hold(const struct reader *reader, modes_call *call, bool sorting)
+/* Of a line or a ring: the list is compared as the call leaves it. */
+static bool modes_hold(const struct reader *reader, modes_call *call, size_t *cases)
 {
     const struct field *histogram = field_at(reader, 0, "histogram");
     int32_t closeness = (int32_t)value_at(reader, 1, "closeness");
@@ -455,28 +449,24 @@ static bool modes_hold(const struct reader *reader, modes_call *call, bool sorti
     struct lent lent;
     uint32_t *places = words_of(list, lend(&lent, list->count * sizeof *places));
     struct kistrovu_modes_answer found = call(bins, histogram->count, closeness, places, list->count);
-    if (sorting && found.separators <= list->count) {
-        qsort(places, found.separators, sizeof *places, by_size);
-    }
     bool hold = same_value(reader, 3, "number", found.number)
         && same_value(reader, 4, "separators", found.separators)
         && same_words(reader, list_of(reader, 5, "list_after", list->count), places, list->count)
         && same_words(reader, histogram, bins, histogram->count);
     hold &= take_back(reader, &lent);
     free(bins);
+    (*cases)++;
     return hold;
 }
 
 static bool line_modes_hold(const struct reader *reader, size_t *cases)
 {
-    (*cases)++;
-    return modes_hold(reader, kistrovu_line_modes, false);
+    return modes_hold(reader, kistrovu_line_modes, cases);
 }
 
 static bool ring_modes_hold(const struct reader *reader, size_t *cases)
 {
-    (*cases)++;
-    return modes_hold(reader, kistrovu_ring_modes, true);
+    return modes_hold(reader, kistrovu_ring_modes, cases);
 }
 
 static bool same_entries(const struct reader *reader, const struct field *kept, const struct kistrovu_card *found)
