@@ -55,7 +55,7 @@ extern "C" {
  * another release. Major: a declaration, a number or a figure's meaning changed. Minor: something was added. */
 
 #define KISTROVU_VERSION_MAJOR 5
-#define KISTROVU_VERSION_MINOR 0
+#define KISTROVU_VERSION_MINOR 1
 #define KISTROVU_VERSION_PATCH 0
 #define KISTROVU_VERSION (10000 * KISTROVU_VERSION_MAJOR + 100 * KISTROVU_VERSION_MINOR + KISTROVU_VERSION_PATCH)
 
@@ -144,13 +144,17 @@ struct kistrovu_verdict_answer { /* 24 bytes */
 struct kistrovu_verdict_answer kistrovu_verdict(const uint32_t *histogram, size_t bins, bool rising, int32_t closeness);
 
 /* ---- the modes of a line of bins, and of a ring, whose last bin is beside its first. Grounds 6, 7, 8, 10
- * The separators are in the first places of the list, and the answer says how many there are; the other places stay as
- * they were. A mode runs from its separator to the bin before the next one. A line's separators rise and end with its last
- * bin, which belongs to the last mode, so there is one mode fewer than separators.
- * A ring has as many modes as separators, one or more, which may be listed in any order. It is opened at its lowest bin, the
- * first of several, and the line from there round to that bin again is segmented. Then its modes are joined all round the
- * ring, past the opening too, until none can be: so the opening need not be a separator. For example, the ring 0, 4, 0, 0, 4
- * at closeness 0 is opened at bin 0 and has one separator, bin 2; its one mode runs from there round to bin 1. */
+ * The separators are in the first places of the list, from the lowest bin number up, and the answer says how many there are;
+ * the other places stay as they were. A mode runs from its separator to the bin before the next one. A line's separators
+ * end with its last bin, which belongs to the last mode, so there is one mode fewer than separators.
+ * A ring has as many modes as separators, one or more, and the bins before the first in the list belong to the mode of the
+ * last. It is opened at its lowest bin, the first of several, and the line from there round to that bin again is segmented.
+ * Then its modes are joined all round the ring, past the opening too, until none can be: so the opening need not be a
+ * separator. Modes are numbered from the opening on, not as they are listed: mode 0 starts at the opening, or else at the
+ * next separator round the ring. A card numbers its hue modes so; it is made without the list.
+ * For example, the ring 94, 78, 144, 78, 143, 78, 78, 118, 78 at closeness 1, opened at bin 1, has the list 3, 5: bin 1 is no
+ * separator, bins 3 and 4 are mode 0, and bins 5 to 8 and 0 to 2 mode 1. And the ring 9, 1, 9, 0, 9, 0 at closeness 0, opened
+ * at bin 3, has the list 1, 3, 5: mode 0 starts at bin 3, mode 1 at bin 5 and mode 2 at bin 1. */
 
 struct kistrovu_modes_answer { /* 8 bytes */
     uint32_t number;

@@ -49,13 +49,12 @@
 //!
 //! # What is proved, and what is not
 //!
-//! Every call, on every input, gives exactly the answer that the rules define (they leave open the order of a ring's
-//! separators, and nothing else). This is proved for the engine's source; `crates/kistrovu/src/lib.rt` states it. The
-//! proof does not cover the compiler that makes the library from it, nor anything in this crate: the declarations of
-//! [`raw`] are written by hand, and so is the wrapper around them. They are tested: the comparison under `tests/` makes
-//! all calls except [`version`] through these declarations, and the tests beside this crate make all of them through the
-//! wrapper. Where memory is at stake, the wrapper does not trust the library's figures: lengths are cut to the room there
-//! is, and flags are read as bytes.
+//! Every call, on every input, gives exactly the answer that the rules define. This is proved for the engine's source;
+//! `crates/kistrovu/src/lib.rt` states it. The proof does not cover the compiler that makes the library from it, nor
+//! anything in this crate: the declarations of [`raw`] are written by hand, and so is the wrapper around them. They are
+//! tested: the comparison under `tests/` makes all calls except [`version`] through these declarations, and the tests
+//! beside this crate make all of them through the wrapper. Where memory is at stake, the wrapper does not trust the
+//! library's figures: lengths are cut to the room there is, and flags are read as bytes.
 #![no_std]
 #![deny(missing_docs)]
 

@@ -32,17 +32,19 @@ pub fn line_modes(histogram: &[u32], closeness: i32) -> Result<Vec<u32>, Ground>
     listed(raw::kistrovu_line_modes, histogram, closeness)
 }
 
-/// The separators of a ring of bins, each once: the bins at which its modes begin. Each mode runs from a separator round
-/// to the bin before the next. The ring is opened at its lowest bin, the first of several; the modes of the line from
-/// there round to that bin again are then joined all round the ring, past the opening too, so the opening need not be a
-/// separator. **Their order is free**, since a ring has no first bin: sort them if the order matters. Grounds:
+/// The separators of a ring of bins, from the lowest bin number up: the bins at which its modes begin. Each mode runs from
+/// a separator round to the bin before the next. The ring is opened at its lowest bin, the first of several; the modes of
+/// the line from there round to that bin again are then joined all round the ring, past the opening too, so the opening
+/// need not be a separator. Modes are numbered from the opening on, not as they are listed: mode 0 begins at the opening,
+/// or else at the next separator round the ring. A card numbers its hue modes so; it is made without the list. Grounds:
 /// [`Bins`](Ground::Bins), [`Sum`](Ground::Sum), [`Closeness`](Ground::Closeness).
 ///
 /// ```
 /// # use kistrovu::{ring_modes, Ground};
-/// let mut separators = ring_modes(&[20, 0, 20, 0], 0)?;
-/// separators.sort();
-/// assert_eq!(separators, [1, 3]);
+/// // Opened at bin 3, where mode 0 begins; mode 1 begins at bin 5, and mode 2 at bin 1.
+/// assert_eq!(ring_modes(&[9, 1, 9, 0, 9, 0], 0)?, [1, 3, 5]);
+/// // Opened at bin 1, which is no separator: bins 3 and 4 are mode 0, and bins 5 to 8 and 0 to 2 mode 1.
+/// assert_eq!(ring_modes(&[94, 78, 144, 78, 143, 78, 78, 118, 78], 1)?, [3, 5]);
 /// // Opened at bin 0, which lies inside the one mode that is left: from bin 2 round to bin 1.
 /// assert_eq!(ring_modes(&[0, 4, 0, 0, 4], 0)?, [2]);
 ///
@@ -82,17 +84,15 @@ pub fn line_modes_into(
     modes(raw::kistrovu_line_modes, histogram, closeness, separators)
 }
 
-/// Like [`ring_modes`], without a heap: the separators are written into the first places of the list, **in any order**,
-/// and their number is handed back. Every other place stays as it was; if the call is turned down, all places do.
-/// Grounds: [`Bins`](Ground::Bins), [`Sum`](Ground::Sum), [`Closeness`](Ground::Closeness),
-/// [`Separators`](Ground::Separators).
+/// Like [`ring_modes`], without a heap: the separators are written into the first places of the list, and their number
+/// is handed back. Every other place stays as it was; if the call is turned down, all places do. Grounds:
+/// [`Bins`](Ground::Bins), [`Sum`](Ground::Sum), [`Closeness`](Ground::Closeness), [`Separators`](Ground::Separators).
 ///
 /// ```
 /// # use kistrovu::{ring_modes_into, Ground};
 /// let humps = [20, 0, 20, 0];
 /// let mut list = [99; 6];
-/// let count = ring_modes_into(&humps, 0, &mut list)?;
-/// list[..count].sort();
+/// assert_eq!(ring_modes_into(&humps, 0, &mut list)?, 2);
 /// assert_eq!(list, [1, 3, 99, 99, 99, 99]);
 ///
 /// assert_eq!(ring_modes_into(&[20], 0, &mut list), Err(Ground::Bins));

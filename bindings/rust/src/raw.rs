@@ -173,7 +173,8 @@ extern "C" {
         places: usize,
     ) -> ModesAnswer;
 
-    /// The modes of a ring of bins: its separators, each once, in any order. Grounds 6, 7, 8, 10.
+    /// The modes of a ring of bins: its separators, from the lowest bin number up, in the first places of the list.
+    /// Grounds 6, 7, 8, 10.
     pub fn kistrovu_ring_modes(
         histogram: *const u32,
         bins: usize,

@@ -24,9 +24,6 @@ use Rattle.kistrovu.specs.Answers.{cardAnswer, labelList, printed, print
 abbrev pub IfServed : ℕ → Type 0 → Type 0
 IfServed n P = n ≡ 0 → P
 
-abbrev pub IfTurnedDown : ℕ → Type 0 → Type 0
-IfTurnedDown n P = 0 < n → P
-
 -- D3 of a served card call, stated only about what it hands back: the answer r, and the labels that it leaves
 module _ (e : Closeness) (bytes : List ℕ) (r : Card) (labels : List ℕ) where
   -- pixel i counts under exactly one of the entries, and bears its number
