@@ -2,8 +2,8 @@
 use pixel::HUES;
 use pixel::INTENSITIES;
 use pixel::SATURATIONS;
+use rings::ring_modes;
 use segmentation::line_separators;
-use segmentation::ring_modes;
 ghost use mathlib.Core.Path.{_≡_};
 ghost use Prim.Native.Nat.{_+_, _≤_, _<_};
 ghost use lib.ListN.{length};

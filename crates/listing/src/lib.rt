@@ -1,8 +1,8 @@
 // The list of a ring call: the bins where the ring's modes start, from the lowest number up. A card is made without it.
 // The places where the modes start, counted from the opening on, rise from mode to mode. So do their bins up to the last bin of the ring; past it the numbers begin again with 0, and these bins come
 // first in the list.
-use segmentation::MOST_RING_BINS;
-use segmentation::ring_modes;
+use rings::MOST_RING_BINS;
+use rings::ring_modes;
 ghost use mathlib.Core.Path.{_≡_};
 ghost use Prim.Native.Nat.{_+_, _%_, _≤_, _<_};
 ghost use lib.ListN.{length};

@@ -8,16 +8,15 @@ pub mod Settled
 pub mod OneMode
 pub mod Finishing
 pub mod Always
-mod Holding
+pub mod Holding
 mod Searching
-mod Applied
+pub mod Applied
 pub mod RingPlaces
-mod TwoTurns
-mod Turned
-mod RoundKept
+pub mod TwoTurns
+pub mod Turned
+pub mod RoundKept
 pub mod RoundOne
-mod RunsInside
-mod HeldTwice
+pub mod RunsInside
 pub mod RingModes
 pub mod Filled
 pub mod Loose

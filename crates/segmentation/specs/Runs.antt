@@ -2,7 +2,7 @@
 use Prim.Native.Nat.{ℕ, suc, _+_, _*_, _-_, _^_, _≤_, _<_}
 use mathlib.Core.Path.{_≡_}
 use mathlib.Core.Bool.{Bool, true, false, cond}
-use mathlib.Core.List.{List, _++_}
+use mathlib.Core.List.{List}
 use mathlib.Core.Option.{Option, none, some}
 use lib.ListN.{length, getD}
 use lib.IntN.{ℤ, pos}
@@ -11,12 +11,11 @@ use Rattle.lists.specs.Lists.{total, part}
 use Rattle.logarithm.specs.Sheet.{logSheet}
 use Rattle.verdict.specs.Test.{Closeness}
 use Rattle.verdict.specs.Settings.{lastSetting}
-use Rattle.pooling.specs.Limits.{mostRingBins, mostRingCounts, Small}
+use Rattle.pooling.specs.Limits.{Small}
 use Rattle.segmentation.specs.declared.Found.{Found}
 use Rattle.segmentation.specs.Segments.{Segment, segmentAt, binAt}
 use Rattle.segmentation.specs.Joining.{Reader, Join, joinOf, lastStart}
 use Rattle.segmentation.specs.Finished.{RingCut}
-use Rattle.segmentation.specs.Held.{segmentsHeld}
 
 -- the sheet of logarithms, a setting in range, and two lists with room for so many segments
 pub record Prepared (sheet : List ℕ) (setting : ℕ) (separators peaks : List ℕ) (held : ℕ) : Type 0 where
@@ -59,24 +58,6 @@ NoneAmong e read ss known = (n : ℕ) → 2 ≤ n → NoneBefore e read ss (suc 
 pub record OnRing (bins : ℕ) (turn : List ℕ) (ss : List Segment) : Type 0 where
   pub cut : RingCut bins ss
   pub low : (m : ℕ) → m < length ss → 2 * binAt turn (segmentAt ss m .start) ≤ total turn
-
--- two turns of such a ring of `bins` bins, and two lists that hold its n modes, with room for them twice over
-pub record RingHeld (sheet : List ℕ) (setting : ℕ) (round separators peaks : List ℕ) (n bins : ℕ) : Type 0 where
-  pub turn : List ℕ
-  pub turns : round ≡ turn ++ turn
-  pub asLong : length turn ≡ bins
-  pub limits : (bins ≤ mostRingBins) × (total turn ≤ mostRingCounts)
-  pub prepared : Prepared sheet setting separators peaks (n + n)
-  pub onRing : OnRing bins turn (segmentsHeld separators peaks 0 n)
-
--- the n members from number `from` on are no larger than a bound
-abbrev pub EachTo : (bound : ℕ) (xs : List ℕ) (from n : ℕ) → Type 0
-EachTo bound xs from n = (k : ℕ) → k < n → getD xs (from + k) 0 ≤ bound
-
--- the n members from number `from` on stand again behind them, `by` more each; they and what comes before them stay
-pub record Repeated (before after : List ℕ) (from n by : ℕ) : Type 0 where
-  pub kept : (m : ℕ) → m < from + n → getD after m 0 ≡ getD before m 0
-  pub again : (k : ℕ) → k < n → getD after (from + n + k) 0 ≡ getD before (from + k) 0 + by
 
 -- what the code gives for the run j when only a cost below `least` matters: j itself if its cost is below `least`, else a run whose cost is not
 pub record RunBelow (least : ℤ) (j r : Join) : Type 0 where

@@ -1,14 +1,16 @@
-// The modes of a line of bins and of a ring. The first segments are cut at the valleys; they are joined as long as a run of them is joinable.
+// The modes of a line of bins. The first segments are cut at the valleys; they are joined as long as a run of them is joinable. The search goes round a ring too.
 mod first;
 mod joins;
-mod modes;
-mod rings;
-mod rounds;
+mod lines;
 mod runs;
 
-pub use modes::MOST_RING_BINS;
-pub use modes::line_separators;
-pub use modes::ring_modes;
+pub use first::first_segments;
+pub use joins::apply;
+pub use joins::join_all;
+pub use joins::shift;
+pub use lines::copy_first;
+pub use lines::line_separators;
+pub use runs::next_join;
 
 // A run of len segments, from segment number `first` on, that may be joined: whether by its rise or by its fall, and at what cost.
 pub struct Join {
@@ -35,10 +37,4 @@ pub struct Search {
 pub struct Starts {
     pub from: usize,
     pub end: usize,
-}
-
-// A ring by its modes: the bin at which it is opened, and how many modes there are.
-pub struct Opened {
-    pub opening: usize,
-    pub modes: usize,
 }
