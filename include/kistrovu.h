@@ -150,8 +150,8 @@ struct kistrovu_verdict_answer kistrovu_verdict(const uint32_t *histogram, size_
  * A ring has as many modes as separators, one or more, and the bins before the first in the list belong to the mode of the
  * last. It is opened at its lowest bin, the first of several, and the line from there round to that bin again is segmented.
  * Then its modes are joined all round the ring, past the opening too, until none can be: so the opening need not be a
- * separator. Modes are numbered from the opening on, not as they are listed: mode 0 starts at the opening, or else at the
- * next separator round the ring. A card numbers its hue modes so; it is made without the list.
+ * separator. Modes are numbered from the opening on, not as they are listed: mode 0 starts at the opening if that is a
+ * separator, otherwise at the next one round the ring. A card numbers its hue modes so; it is made without the list.
  * For example, the ring 94, 78, 144, 78, 143, 78, 78, 118, 78 at closeness 1, opened at bin 1, has the list 3, 5: bin 1 is no
  * separator, bins 3 and 4 are mode 0, and bins 5 to 8 and 0 to 2 mode 1. And the ring 9, 1, 9, 0, 9, 0 at closeness 0, opened
  * at bin 3, has the list 1, 3, 5: mode 0 starts at bin 3, mode 1 at bin 5 and mode 2 at bin 1. */

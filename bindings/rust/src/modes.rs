@@ -35,9 +35,9 @@ pub fn line_modes(histogram: &[u32], closeness: i32) -> Result<Vec<u32>, Ground>
 /// The separators of a ring of bins, from the lowest bin number up: the bins at which its modes begin. Each mode runs from
 /// a separator round to the bin before the next. The ring is opened at its lowest bin, the first of several; the modes of
 /// the line from there round to that bin again are then joined all round the ring, past the opening too, so the opening
-/// need not be a separator. Modes are numbered from the opening on, not as they are listed: mode 0 begins at the opening,
-/// or else at the next separator round the ring. A card numbers its hue modes so; it is made without the list. Grounds:
-/// [`Bins`](Ground::Bins), [`Sum`](Ground::Sum), [`Closeness`](Ground::Closeness).
+/// need not be a separator. Modes are numbered from the opening on, not as they are listed: mode 0 begins at the opening
+/// if that is a separator, otherwise at the next one round the ring. A card numbers its hue modes so; it is made without
+/// the list. Grounds: [`Bins`](Ground::Bins), [`Sum`](Ground::Sum), [`Closeness`](Ground::Closeness).
 ///
 /// ```
 /// # use kistrovu::{ring_modes, Ground};

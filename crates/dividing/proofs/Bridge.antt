@@ -8,7 +8,7 @@ use lib.Dec.{eqb}
 use lib.ListN.{length}
 use Rattle.lists.specs.Lists.{numbers, countIf, filter}
 use Rattle.lists.proofs.Each.{each-all, each-number}
-use Rattle.lists.proofs.Filters.{numbers-length}
+use Rattle.lists.proofs.Filters.{numbers-length, filter-same}
 use Rattle.lists.proofs.Places.{numbers-at}
 use Rattle.lists.proofs.Firsts.{passes-at-first}
 use Rattle.lists.proofs.Counting.{one-counted, count-map, eqb-turned}
@@ -45,9 +45,6 @@ filter-filter {A = A} s t (x ∷ xs) = go (s x) (filter-filter s t xs)
         → filter t (cond b (x ∷ filter s xs) (filter s xs)) ≡ cond (b && t x) (x ∷ filter (λ x. s x && t x) xs) (filter (λ x. s x && t x) xs)
     go true e = ap (λ ys. cond (t x) (x ∷ ys) ys) e
     go false e = e
-
-pub filter-same : {A : Type 0} (s t : A → Bool) (xs : List A) → ((x : A) → s x ≡ t x) → filter s xs ≡ filter t xs
-filter-same s t xs h = ap (λ (f : _ → Bool). filter f xs) (fun-ext h)
 
 map-flat-map : {A B C : Type 0} (f : B → C) (g : A → List B) (xs : List A) → map f (flatMap g xs) ≡ flatMap (λ x. map f (g x)) xs
 unfolding flatMap

@@ -19,6 +19,7 @@ use Rattle.segmentation.specs.Segments.{Segment, segmentAt, inMode}
 use Rattle.segmentation.specs.Joining.{lineModes, lineSeparators}
 use Rattle.segmentation.specs.Ring.{opening, ringBin, linePlace, ringModes, inArc, inRound, inRingMode}
 use Rattle.segmentation.specs.Finished.{Chain, Cut}
+use Rattle.segmentation.proofs.ModeStarts.{startsOf, starts-length, start-at, starts-rise}
 use Rattle.segmentation.proofs.Finishing.{modes-cut, separators-length}
 use Rattle.segmentation.proofs.OneMode.{one-mode, in-mode, in-last-mode}
 use Rattle.segmentation.proofs.RoundOne.{in-arc, left-or, right-or}
@@ -37,23 +38,9 @@ first-of-one n test one m l t =
     sym (eqb-true m (firstIndex test xs) (sym (passes-at-first test xs 0 (one-counted n test one) m k) ∙ ap test here ∙ t))
 
 -- ---- where modes start, as the code lends it
-abbrev pub startsOf : List Segment → List ℕ
-startsOf ss = map (λ (s : Segment). s .start) ss
-
-pub starts-length : (ss : List Segment) → length (startsOf ss) ≡ length ss
-starts-length ss = length-map ss _
-
 module _ (ss : List Segment) where
-  start-at : (m : ℕ) → getD (startsOf ss) m 0 ≡ segmentAt ss m .start
-  start-at m = List·getD-map (λ (s : Segment). s .start) ss m (record { start = 0; peak = 0; end = 0 })
-
-  pub starts-rise : 0 < length ss → Chain ss → Rises (startsOf ss)
-  starts-rise some c =
-      let long = starts-length ss in
-      record {
-        some = omega (arith, long);
-        rises = λ m l. omega (arith, start-at m, start-at (suc m), c .adjacent m (omega (arith, long)), c .ascending m (omega (arith, long)));
-      }
+  modes-rise : 0 < length ss → Chain ss → Rises (startsOf ss)
+  modes-rise some c = record { some = omega (arith, starts-length ss); rises = starts-rise ss c }
 
   -- n modes are found, and where they start stands in the first places of the list
   pub record Lent (list : List ℕ) (n : ℕ) : Type 0 where
@@ -67,7 +54,7 @@ module _ (ss : List Segment) where
     count = count;
     starts = starts;
     long = ap length starts ∙ starts-length ss ∙ sym count;
-    rise = rw starts (starts-rise some c);
+    rise = rw starts (modes-rise some c);
   }
 
   -- the mode that has a place at or after the first separator starts there or before, and the next one after it
@@ -76,12 +63,12 @@ module _ (ss : List Segment) where
     mode-in = omega (arith, at .mode, starts-length ss)
 
     mode-starts : segmentAt ss m .start ≤ i
-    mode-starts = omega (arith, start-at 0, start-at m, at .begun (omega (arith, start-at 0)))
+    mode-starts = omega (arith, start-at ss 0, start-at ss m, at .begun (omega (arith, start-at ss 0)))
 
     mode-ends : suc m < length ss → i < segmentAt ss m .end
     mode-ends l =
         let k : suc m < length (startsOf ss) = omega (arith, starts-length ss) in
-        omega (arith, start-at 0, start-at (suc m), at .notNext (omega (arith, start-at 0)) k, c .adjacent m l)
+        omega (arith, start-at ss 0, start-at ss (suc m), at .notNext (omega (arith, start-at ss 0)) k, c .adjacent m l)
 
 -- ---- a line
 module _ (e : Closeness) (h : List ℕ) (two : 2 ≤ length h) where

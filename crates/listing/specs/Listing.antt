@@ -17,6 +17,6 @@ pub record RingOrdered (e : Closeness) (h : List ℕ) : Type 0 where
   pub forEachMode : length (ringSeparators e h) ≡ length (ringModes e h)
   pub rising : Rising (ringSeparators e h)
 
--- proved in proofs/Ordered
+-- proved in proofs/Always
 abbrev pub RingAlwaysOrdered : Type 0
 RingAlwaysOrdered = (e : Closeness) (h : List ℕ) → 2 ≤ length h → RingOrdered e h

@@ -18,7 +18,7 @@ pub struct Ring {
     pub bins: usize,
 }
 
-// The first of the places that lies past the last bin; how many there are if none does.
+// The number of the first place that lies past the last bin; if none does, how many places there are.
 fn first_past_last(places: &[u32], ring: Ring) -> usize
     requires { ⌜ ring .opening ≤ mostRingBins ⌝ }
     ensures { λ r. ⌜ r ≡ firstIndex (pastLast ring) (now (places .entry)) ⌝ }
@@ -33,7 +33,7 @@ fn first_past_last(places: &[u32], ring: Ring) -> usize
     i
 }
 
-// Which of n modes is listed at number i, where mode `from` is listed first; after the last mode comes the first.
+// Which of n modes is listed at number i, where mode `from` is listed first; after the last mode comes the first. The order of the list is settled here and nowhere else.
 fn listed_mode(i: usize, from: usize, n: usize) -> usize
     requires { ⌜ (i < n) × (from ≤ n) × (n ≤ mostRingBins) ⌝ }
     ensures { λ r. ⌜ r ≡ (from + i) % n ⌝ }

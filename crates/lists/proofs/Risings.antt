@@ -9,6 +9,7 @@ use lib.ListN.{length, getD}
 use borrow.Author.Tests.{eq-eqb, ne-eqb, lt-ltb}
 use Rattle.lists.specs.Lists.{numbers, filter, countIf, contains, Rising}
 use Rattle.lists.proofs.Cases.{by-order}
+use Rattle.lists.proofs.Filters.{filter-same}
 use Rattle.lists.proofs.Counting.{count-none, count-append}
 
 -- ---- lists that rise
@@ -42,10 +43,11 @@ contains-turned xs ys b =
     ap (ltb 0) q
 
 -- ---- the numbers that a list contains
-filter-same : (test test′ : ℕ → Bool) (from n : ℕ) → ((b : ℕ) → from ≤ b → test b ≡ test′ b) → filter test (numbers from n) ≡ filter test′ (numbers from n)
+-- of tests that agree from a number on
+filter-from : (test test′ : ℕ → Bool) (from n : ℕ) → ((b : ℕ) → from ≤ b → test b ≡ test′ b) → filter test (numbers from n) ≡ filter test′ (numbers from n)
 unfolding filter numbers
-filter-same test test′ from zero f = refl
-filter-same test test′ from (suc n) f = rw (f from (omega arith), filter-same test test′ (suc from) n (λ b l. f b (omega arith)))
+filter-from test test′ from zero f = refl
+filter-from test test′ from (suc n) f = rw (f from (omega arith), filter-from test test′ (suc from) n (λ b l. f b (omega arith)))
 
 filter-none : (from n : ℕ) → filter (contains []) (numbers from n) ≡ []
 unfolding filter numbers contains countIf
@@ -68,7 +70,7 @@ rising-is (x ∷ xs) from (suc n) r low high =
     let above : (b : ℕ) → suc from ≤ b → contains (x ∷ xs) b ≡ contains xs b = λ b k. contains-later x xs b (omega arith) in
     rw (
       here,
-      filter-same (contains (x ∷ xs)) (contains xs) (suc from) n above,
+      filter-from (contains (x ∷ xs)) (contains xs) (suc from) n above,
       rising-is xs (suc from) n (λ i k. r (suc i) (omega arith)) (λ k. omega (arith, r 0 (omega arith))) (λ i k. omega (arith, high (suc i) (omega arith))),
     )
     (ap (λ (z : ℕ). z ∷ xs) (sym e)))
@@ -76,4 +78,4 @@ rising-is (x ∷ xs) from (suc n) r low high =
 -- another list of the same numbers may stand for it
 pub rising-of : (xs ys : List ℕ) (n : ℕ) → ((b : ℕ) → contains ys b ≡ contains xs b) → Rising xs → ((i : ℕ) → i < length xs → getD xs i 0 < n)
     → filter (contains ys) (numbers 0 n) ≡ xs
-rising-of xs ys n same r high = filter-same (contains ys) (contains xs) 0 n (λ b l. same b) ∙ rising-is xs 0 n r (λ k. omega arith) (λ i l. omega (arith, high i l))
+rising-of xs ys n same r high = filter-same (contains ys) (contains xs) (numbers 0 n) same ∙ rising-is xs 0 n r (λ k. omega arith) (λ i l. omega (arith, high i l))

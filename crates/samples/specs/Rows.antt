@@ -91,8 +91,7 @@ computed (modes e h ss) = segments (lineModes e h)
 computed (inLine e h m b is) = truth (inMode (lineModes e h) m b)
 computed (round e h ss) = segments (ringModes e h)
 computed (ring e h separators ms) =
-    let found = ringSeparators e h in
-    numbered found (map (λ b. firstMode e h (length found) b) (numbers 0 (length h)))
+    numbered (ringSeparators e h) (map (λ b. firstMode e h (length (ringModes e h)) b) (numbers 0 (length h)))
 
 -- what the row says
 abbrev pub stated : Sample → Result

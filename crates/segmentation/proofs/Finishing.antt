@@ -9,7 +9,7 @@ use lib.Seq.{length-take-le, getD-at}
 use lib.IntN.{pos}
 use lib.Signed.{ltZ}
 use native.Mathlib.Omega.{arith}
-use Rattle.lists.specs.Lists.{total, part}
+use Rattle.lists.specs.Lists.{total, part, Rising}
 use Rattle.lists.proofs.Cases.{by-order}
 use Rattle.lists.proofs.Sums.{total-part-le}
 use Rattle.pooling.specs.Blocks.{Direction}
@@ -23,6 +23,7 @@ use Rattle.segmentation.specs.Inside.{Inside, modeCount}
 use Rattle.segmentation.specs.Finished.{Cut, SingleHump, AlwaysFinished}
 use Rattle.segmentation.proofs.Settled.{next-of, next-run, next-below, join-all-keeps, line-none-joinable}
 use Rattle.segmentation.proofs.Kept.{Run, join-cut, join-inside, join-counts, join-humps}
+use Rattle.segmentation.proofs.ModeStarts.{startsOf, starts-length, start-at}
 use Rattle.segmentation.proofs.OneMode.{one-mode}
 use Rattle.segmentation.proofs.FirstCut.{first-cut, first-humps, first-inside, first-counts}
 
@@ -38,29 +39,23 @@ part-sound e w h bins counts i j a b =
 
 -- ---- the separators of a line: the starts of its modes, and the last bin
 module _ (e : Closeness) (h : List ℕ) where
-  starts : List ℕ
-  starts = map (λ (s : Segment). s .start) (lineModes e h)
-
-  starts-length : length starts ≡ length (lineModes e h)
-  unfolding starts
-  starts-length = length-map (lineModes e h) (λ (s : Segment). s .start)
+  abbrev starts : List ℕ
+  starts = startsOf (lineModes e h)
 
   pub separators-length : length (lineSeparators e h) ≡ suc (length (lineModes e h))
-  unfolding lineSeparators starts
-  separators-length = omega (arith, length-append starts ((length h - 1) ∷ []), starts-length)
+  unfolding lineSeparators
+  separators-length = omega (arith, length-append starts ((length h - 1) ∷ []), starts-length (lineModes e h))
 
   pub separator-at : (i : ℕ) → i < length (lineModes e h) → binAt (lineSeparators e h) i ≡ segmentAt (lineModes e h) i .start
-  unfolding lineSeparators starts
+  unfolding lineSeparators
   separator-at i l =
-      List·getD-append starts ((length h - 1) ∷ []) 0 i (omega (arith, starts-length))
-      ∙ List·getD-map (λ (s : Segment). s .start) (lineModes e h) i (record { start = 0; peak = 0; end = 0 })
+      List·getD-append starts ((length h - 1) ∷ []) 0 i (omega (arith, starts-length (lineModes e h))) ∙ start-at (lineModes e h) i
 
   pub separator-last : binAt (lineSeparators e h) (length (lineModes e h)) ≡ length h - 1
-  unfolding lineSeparators starts
-  separator-last = getD-at starts (length h - 1) [] 0 (length (lineModes e h)) starts-length
+  unfolding lineSeparators
+  separator-last = getD-at starts (length h - 1) [] 0 (length (lineModes e h)) (starts-length (lineModes e h))
 
-  pub separators-rise : Cut (length h) (lineModes e h)
-      → (i : ℕ) → suc i < length (lineSeparators e h) → binAt (lineSeparators e h) i < binAt (lineSeparators e h) (suc i)
+  pub separators-rise : Cut (length h) (lineModes e h) → Rising (lineSeparators e h)
   separators-rise c i l =
       let ss = lineModes e h in
       let k : i < length ss = omega (arith, separators-length) in

@@ -6,6 +6,7 @@ mod FirstHeld
 pub mod Kept
 pub mod Settled
 pub mod OneMode
+pub mod ModeStarts
 pub mod Finishing
 pub mod Always
 pub mod Holding

@@ -20,10 +20,10 @@ pub fn card(case: &CardCase, tally: &mut Tally) -> Result<(), Difference> {
     let mut expected_list = list.clone();
     let labels = AROUND..AROUND + places;
     let answer = engine::card(&mut lent, *closeness, &mut list[labels.clone()]);
-    let (expected, hue_joins) =
-        reference::calls::card_and_hue_joins(bytes, *closeness, &mut expected_list[labels]);
+    let (expected, hue_traits) =
+        reference::calls::card_and_hue_traits(bytes, *closeness, &mut expected_list[labels]);
     let expected = expected.into_raw();
-    tally.round.count(hue_joins, hue_modes(&expected));
+    tally.round.count(hue_traits, hue_modes(&expected));
     tally.cards += 1;
     tally.count(expected.number);
     tally.several += u64::from(expected.len > 1);

@@ -241,15 +241,15 @@ pub fn modes(form: Form, case: &ModesCase, tally: &mut Tally) -> Result<(), Diff
     same(|| format!("histogram after {}", input()), histogram, &lent)
 }
 
-/// The reference's answer, with its joins round the ring counted.
+/// The reference's answer, with the ring counted by its traits.
 fn ring_modes(
     histogram: &[u32],
     closeness: i32,
     list: &mut [u32],
     round: &mut RoundTally,
 ) -> ModesAnswer {
-    let (answer, joins) = calls::ring_modes_and_joins(histogram, closeness, list);
-    round.count(joins, answer.separators as usize);
+    let (answer, traits) = calls::ring_modes_and_traits(histogram, closeness, list);
+    round.count(traits, answer.separators as usize);
     answer
 }
 

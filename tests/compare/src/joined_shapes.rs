@@ -250,7 +250,7 @@ mod tests {
     fn the_joining_closeness_is_the_lowest_that_joins() {
         for ring in [vec![5, 0, 20, 0, 0], vec![9, 30, 10, 10, 10, 10, 30]] {
             let closeness = joining_closeness(&ring);
-            let joins = |closeness| rings::joins(&widened(&ring), closeness).all;
+            let joins = |closeness| rings::traits(&widened(&ring), closeness).joins;
             assert_eq!((joins(closeness - 1), joins(closeness)), (0, 1), "{ring:?}");
         }
     }
@@ -263,7 +263,7 @@ mod tests {
                 let digit = |bin| code / levels.len().pow(bin) % levels.len();
                 let ring: Vec<u64> = (0..bins).map(|bin| levels[digit(bin)]).collect();
                 for closeness in -4..=8 {
-                    assert_eq!(rings::joins(&ring, closeness).all, 0, "{ring:?}");
+                    assert_eq!(rings::traits(&ring, closeness).joins, 0, "{ring:?}");
                 }
             }
         }

@@ -506,7 +506,7 @@ fn joined_longest(random: &mut Random) -> Vec<ModesCase> {
 #[cfg(test)]
 mod tests {
     use super::*;
-    use reference::calls::ring_modes_and_joins;
+    use reference::calls::ring_modes_and_traits;
 
     #[test]
     fn some_rings_are_joined_round_at_every_closeness_that_is_served() {
@@ -515,9 +515,9 @@ mod tests {
             let mut at_it = cases.iter().filter(|case| case.closeness == closeness);
             let joined = at_it.any(|case| {
                 let mut list = vec![0; case.places];
-                ring_modes_and_joins(&case.histogram, closeness, &mut list)
+                ring_modes_and_traits(&case.histogram, closeness, &mut list)
                     .1
-                    .all
+                    .joins
                     > 0
             });
             assert!(joined, "at {closeness}");

@@ -3,7 +3,7 @@
 //! no other ring does it show if the list of its separators goes from the opening, or if a card is made from that list.
 
 use crate::comparison::Failure;
-use reference::rings::RoundJoins;
+use reference::rings::RingTraits;
 
 /// Rings, or hue rings of cards, by their joins round the ring and by the order of their modes.
 #[derive(Default)]
@@ -21,13 +21,13 @@ pub struct RoundTally {
 }
 
 impl RoundTally {
-    pub fn count(&mut self, joins: RoundJoins, modes_left: usize) {
+    pub fn count(&mut self, traits: RingTraits, modes_left: usize) {
         self.rings += 1;
-        self.joined += u64::from(joins.all > 0);
-        self.again += u64::from(joins.all > 1);
-        self.divided += u64::from(joins.all > 0 && modes_left > 1);
-        self.long += u64::from(joins.longest > 2);
-        self.rotated += u64::from(joins.rotated);
+        self.joined += u64::from(traits.joins > 0);
+        self.again += u64::from(traits.joins > 1);
+        self.divided += u64::from(traits.joins > 0 && modes_left > 1);
+        self.long += u64::from(traits.longest > 2);
+        self.rotated += u64::from(traits.rotated);
     }
 
     pub fn told(&self) -> String {
@@ -136,13 +136,13 @@ mod tests {
             (2, 3, 2, true),
             (0, 0, 2, true),
         ] {
-            let joins = RoundJoins {
-                all,
+            let traits = RingTraits {
+                joins: all,
                 past_the_opening: all,
                 longest,
                 rotated,
             };
-            tally.count(joins, modes_left);
+            tally.count(traits, modes_left);
         }
         let RoundTally {
             rings,

@@ -2,7 +2,7 @@
 
 use crate::cards::{self, Entry, Pixel};
 use crate::measures::{self, Measures};
-use crate::rings::RoundJoins;
+use crate::rings::RingTraits;
 use crate::test::{self, Verdict};
 use crate::{lines, pooling, rings, swatches};
 
@@ -103,22 +103,22 @@ pub fn line_modes(histogram: &[u32], closeness: i32, list: &mut [u32]) -> ModesA
 
 /// The list goes from the lowest bin number up, wherever the ring opens and its modes begin to number.
 pub fn ring_modes(histogram: &[u32], closeness: i32, list: &mut [u32]) -> ModesAnswer {
-    ring_modes_and_joins(histogram, closeness, list).0
+    ring_modes_and_traits(histogram, closeness, list).0
 }
 
-/// The same, with the joins that were made round the ring: none, if the call is turned down.
-pub fn ring_modes_and_joins(
+/// The same, with the ring's traits: those of no ring, if the call is turned down.
+pub fn ring_modes_and_traits(
     histogram: &[u32],
     closeness: i32,
     list: &mut [u32],
-) -> (ModesAnswer, RoundJoins) {
-    let mut joins = RoundJoins::default();
+) -> (ModesAnswer, RingTraits) {
+    let mut traits = RingTraits::default();
     let answer = modes(histogram, closeness, list, |counts, closeness| {
         let ring = rings::finished(counts, closeness);
-        joins = ring.joins;
+        traits = ring.traits;
         ring.separators()
     });
-    (answer, joins)
+    (answer, traits)
 }
 
 fn modes(
@@ -145,22 +145,22 @@ fn modes(
 }
 
 pub fn card(bytes: &[u8], closeness: i32, labels: &mut [u8]) -> CardAnswer {
-    card_and_hue_joins(bytes, closeness, labels).0
+    card_and_hue_traits(bytes, closeness, labels).0
 }
 
-/// The same, with the joins that were made round the ring of hues: none, if the call is turned down before.
-pub fn card_and_hue_joins(
+/// The same, with the traits of the ring of hues: those of no ring, if the call is turned down before.
+pub fn card_and_hue_traits(
     bytes: &[u8],
     closeness: i32,
     labels: &mut [u8],
-) -> (CardAnswer, RoundJoins) {
+) -> (CardAnswer, RingTraits) {
     let mut answer = CardAnswer {
         number: first_card_ground(bytes, closeness, labels.len()),
         len: 0,
         entries: [Entry::default(); MOST_ENTRIES],
     };
     if answer.number != 0 {
-        return (answer, RoundJoins::default());
+        return (answer, RingTraits::default());
     }
     let pixels: Vec<Pixel> = bytes
         .chunks(3)
@@ -169,14 +169,14 @@ pub fn card_and_hue_joins(
     let card = cards::card(&pixels, closeness);
     if card.entries.len() > MOST_ENTRIES {
         answer.number = 11;
-        return (answer, card.hue_joins);
+        return (answer, card.hue_traits);
     }
     answer.len = card.entries.len() as u32;
     answer.entries[..card.entries.len()].copy_from_slice(&card.entries);
     for (place, &label) in labels.iter_mut().zip(&card.labels) {
         *place = label as u8;
     }
-    (answer, card.hue_joins)
+    (answer, card.hue_traits)
 }
 
 /// The card of a swatch, both as text.

@@ -2,7 +2,7 @@
 //! level. The keys that occur, sorted, are the entries.
 
 use crate::measures::{measures, Measures};
-use crate::rings::RoundJoins;
+use crate::rings::RingTraits;
 use crate::{lines, rings};
 use std::collections::{BTreeMap, BTreeSet};
 
@@ -21,13 +21,13 @@ pub struct Entry {
     pub count: u32,
 }
 
-/// The card as defined, without a limit: its entries, and for each pixel the number of its entry; and the joins that were
-/// made round the ring of hues.
+/// The card as defined, without a limit: its entries, and for each pixel the number of its entry; and the traits of the
+/// ring of hues.
 #[derive(Clone, Debug, PartialEq, Eq)]
 pub struct Card {
     pub entries: Vec<Entry>,
     pub labels: Vec<usize>,
-    pub hue_joins: RoundJoins,
+    pub hue_traits: RingTraits,
 }
 
 pub const GREY: usize = 0;
@@ -43,8 +43,8 @@ struct Level {
     place: usize,
     bins: usize,
     bin: fn(&Measures) -> u8,
-    /// Where the modes of a histogram start, by number, and the joins that were made round it.
-    starts: fn(&[u64], i32) -> (Vec<usize>, RoundJoins),
+    /// Where the modes of a histogram start, by number, and its traits, if it is a ring.
+    starts: fn(&[u64], i32) -> (Vec<usize>, RingTraits),
 }
 
 const HUE: Level = Level {
@@ -66,20 +66,20 @@ const INTENSITY: Level = Level {
     starts: line_starts,
 };
 
-fn ring_starts(counts: &[u64], closeness: i32) -> (Vec<usize>, RoundJoins) {
+fn ring_starts(counts: &[u64], closeness: i32) -> (Vec<usize>, RingTraits) {
     let ring = rings::finished(counts, closeness);
-    (ring.starts(), ring.joins)
+    (ring.starts(), ring.traits)
 }
 
 /// Nothing is joined round a line.
-fn line_starts(counts: &[u64], closeness: i32) -> (Vec<usize>, RoundJoins) {
+fn line_starts(counts: &[u64], closeness: i32) -> (Vec<usize>, RingTraits) {
     let modes = lines::modes(counts, closeness);
     let starts = modes.iter().map(|mode| mode.start).collect();
-    (starts, RoundJoins::default())
+    (starts, RingTraits::default())
 }
 
 pub fn card(pixels: &[Pixel], closeness: i32) -> Card {
-    let (keys, hue_joins) = keys(pixels, closeness);
+    let (keys, hue_traits) = keys(pixels, closeness);
     let all: Vec<Key> = BTreeSet::from_iter(&keys).into_iter().copied().collect();
     let number = |key: &Key| all.binary_search(key).expect("it is one of them");
     let labels: Vec<usize> = keys.iter().map(number).collect();
@@ -91,28 +91,28 @@ pub fn card(pixels: &[Pixel], closeness: i32) -> Card {
     Card {
         entries: entries.collect(),
         labels,
-        hue_joins,
+        hue_traits,
     }
 }
 
 /// The key of each pixel: greys divided by intensity; colours by hue, each of those sets by saturation, each of those
-/// by intensity. And the joins of the hues, which are divided once, if there are any.
-fn keys(pixels: &[Pixel], closeness: i32) -> (Vec<Key>, RoundJoins) {
+/// by intensity. And the traits of the hues, which are divided once, if there are any.
+fn keys(pixels: &[Pixel], closeness: i32) -> (Vec<Key>, RingTraits) {
     let measured: Vec<Measures> = pixels.iter().map(|&[r, g, b]| measures(r, g, b)).collect();
     let kind = |measures: &Measures| if measures.grey { GREY } else { COLOUR };
     let mut keys: Vec<Key> = measured.iter().map(|m| [kind(m), 0, 0, 0]).collect();
-    let mut hue_joins = RoundJoins::default();
+    let mut hue_traits = RingTraits::default();
     for (level, of_greys) in [(HUE, false), (SATURATION, false), (INTENSITY, true)] {
         for (key, members) in sets(&keys) {
             if key[0] == COLOUR || of_greys {
-                let joins = divide(&level, closeness, &measured, &members, &mut keys);
+                let traits = divide(&level, closeness, &measured, &members, &mut keys);
                 if level.place == HUE.place {
-                    hue_joins = joins;
+                    hue_traits = traits;
                 }
             }
         }
     }
-    (keys, hue_joins)
+    (keys, hue_traits)
 }
 
 /// The pixels of each key, by their places.
@@ -124,21 +124,21 @@ fn sets(keys: &[Key]) -> BTreeMap<Key, Vec<usize>> {
     sets
 }
 
-/// Puts the number of its mode into the key of each member, from the histogram of the members alone. The joins made
-/// round that histogram are handed back.
+/// Puts the number of its mode into the key of each member, from the histogram of the members alone. The traits of that
+/// histogram are handed back.
 fn divide(
     level: &Level,
     closeness: i32,
     measured: &[Measures],
     members: &[usize],
     keys: &mut [Key],
-) -> RoundJoins {
+) -> RingTraits {
     let bin = |place: usize| usize::from((level.bin)(&measured[place]));
     let mut counts = vec![0; level.bins];
     for &place in members {
         counts[bin(place)] += 1;
     }
-    let (starts, joins) = (level.starts)(&counts, closeness);
+    let (starts, traits) = (level.starts)(&counts, closeness);
     let mut met = vec![false; starts.len()];
     for &place in members {
         let mode = mode_of(bin(place), &starts, level.bins);
@@ -148,7 +148,7 @@ fn divide(
     // So that the keys that occur are all the entries there are. Beside each valley a first segment has a higher bin of
     // its own, and a mode has the bins of all the segments that were joined to it, on a ring past the opening too.
     assert!(met.iter().all(|&met| met), "a mode without a pixel");
-    joins
+    traits
 }
 
 /// The mode that a bin lies in: back from the bin, on a ring past bin 0 too, to the first start that is met. A ring's

@@ -13,29 +13,30 @@ pub struct Mode {
     pub peak: usize,
 }
 
-/// The joins made after the opened line was finished, and those of them that the line could not try: of runs that have
-/// the opening inside, not at one of their ends.
-///
-/// These are always all of them. A run without the opening inside is a run of the line's modes, and the line has none
-/// left to join. The first join therefore takes the opening inside a mode, where it stays, and every other mode is as
-/// the line left it.
+/// What happened to a ring after its opened line was finished, and how its modes lie, for whoever counts rings.
 #[derive(Clone, Copy, Debug, Default, PartialEq, Eq)]
-pub struct RoundJoins {
-    pub all: usize,
+pub struct RingTraits {
+    /// The joins made round the ring.
+    pub joins: usize,
+    /// Those of them that the line could not try: of runs that have the opening inside, not at one of their ends.
+    ///
+    /// These are always all of them. A run without the opening inside is a run of the line's modes, and the line has none
+    /// left to join. The first join therefore takes the opening inside a mode, where it stays, and every other mode is as
+    /// the line left it.
     pub past_the_opening: usize,
     /// How many modes the longest of the runs had that were joined, 0 if none was.
     pub longest: usize,
-    /// No join, but told with them: whether the modes are in another order than the list of their separators, which
-    /// goes from bin 0 and not from the opening.
+    /// Whether the modes are in another order than the list of their separators, which goes from bin 0 up and not from
+    /// the opening on.
     pub rotated: bool,
 }
 
-/// A ring with nothing left to join: its modes, mode 0 being the first to start at the opening or after it, and the
-/// joins that it took round the ring.
+/// A ring with nothing left to join: its modes, mode 0 being the first to start at the opening or after it, and its
+/// traits.
 #[derive(Clone, Debug, PartialEq, Eq)]
 pub struct Finished {
     pub modes: Vec<Mode>,
-    pub joins: RoundJoins,
+    pub traits: RingTraits,
 }
 
 impl Finished {
@@ -77,22 +78,22 @@ pub fn modes(counts: &[u64], closeness: i32) -> Vec<Mode> {
 }
 
 /// How often modes of the opened line were joined round the ring.
-pub fn joins(counts: &[u64], closeness: i32) -> RoundJoins {
-    finished(counts, closeness).joins
+pub fn traits(counts: &[u64], closeness: i32) -> RingTraits {
+    finished(counts, closeness).traits
 }
 
-/// Modes and joins at once, for whoever wants both: finding them takes long.
+/// Modes and traits at once, for whoever wants both: finding them takes long.
 pub fn finished(counts: &[u64], closeness: i32) -> Finished {
     let mut modes = modes_of_line(counts, closeness);
-    let mut joins = RoundJoins::default();
+    let mut traits = RingTraits::default();
     while let Some((run, left)) = next_join(counts, closeness, &modes) {
-        joins.all += 1;
-        joins.past_the_opening += usize::from(is_past_the_opening(counts, &modes, run));
-        joins.longest = joins.longest.max(run.len);
+        traits.joins += 1;
+        traits.past_the_opening += usize::from(is_past_the_opening(counts, &modes, run));
+        traits.longest = traits.longest.max(run.len);
         modes = joined(counts, &modes, run, left);
     }
-    joins.rotated = !modes.is_sorted_by_key(|mode| mode.separator);
-    Finished { modes, joins }
+    traits.rotated = !modes.is_sorted_by_key(|mode| mode.separator);
+    Finished { modes, traits }
 }
 
 /// What the ring starts from. The line's repeated end is as low as any bin, so it is no mode's peak.
@@ -243,10 +244,10 @@ mod tests {
         for closeness in CLOSENESSES {
             let (mut joined, mut rotated) = (0, 0);
             for counts in small_rings() {
-                let Finished { modes, joins } = finished(&counts, closeness);
+                let Finished { modes, traits } = finished(&counts, closeness);
                 visit(&counts, closeness, &modes);
-                joined += joins.all;
-                rotated += usize::from(joins.rotated);
+                joined += traits.joins;
+                rotated += usize::from(traits.rotated);
             }
             assert!(joined > 0 && rotated > 0, "at {closeness}");
         }
@@ -273,9 +274,9 @@ mod tests {
             let (counts, closeness) = (self.counts, self.closeness);
             assert_eq!(line_starts(counts, closeness), self.line_starts);
             assert_eq!(found(counts, closeness), self.modes);
-            let joins = joins(counts, closeness);
-            assert_eq!(joins.all, self.joins);
-            assert_eq!(joins.past_the_opening, self.joins);
+            let traits = traits(counts, closeness);
+            assert_eq!(traits.joins, self.joins);
+            assert_eq!(traits.past_the_opening, self.joins);
         }
 
         /// The only lowest bin takes the opening along, so that everything else turns with it.
@@ -349,7 +350,7 @@ mod tests {
                 for closeness in [-10, 0, 20] {
                     let counts = vec![count; bins];
                     assert_eq!(found(&counts, closeness), [(0, 0)]);
-                    assert_eq!(joins(&counts, closeness), RoundJoins::default());
+                    assert_eq!(traits(&counts, closeness), RingTraits::default());
                 }
             }
         }
@@ -503,7 +504,7 @@ mod tests {
 
     #[test]
     fn the_longest_run_that_was_joined_is_told() {
-        let longest = |counts: &[u64], closeness| joins(counts, closeness).longest;
+        let longest = |counts: &[u64], closeness| traits(counts, closeness).longest;
         assert_eq!(longest(&[0, 20, 0, 20], 0), 0);
         assert_eq!(longest(&[4, 0, 4, 0, 9, 0, 4, 0, 0, 0], -1), 2);
         assert_eq!(longest(&[1, 0, 1, 0, 6, 0], -3), 3);
@@ -540,7 +541,7 @@ mod tests {
         each_small_ring(|counts, closeness, modes| {
             let before = |mode: &Mode| mode.separator < opening(counts);
             let both = modes.iter().any(before) && !modes.iter().all(before);
-            assert_eq!(joins(counts, closeness).rotated, both, "{counts:?}");
+            assert_eq!(traits(counts, closeness).rotated, both, "{counts:?}");
         });
     }
 
@@ -549,9 +550,9 @@ mod tests {
         each_small_ring(|counts, closeness, modes| {
             let starts = line_starts(counts, closeness);
             assert!(modes.iter().all(|mode| starts.contains(&mode.separator)));
-            let joins = joins(counts, closeness);
-            assert!(modes.len() + joins.all <= starts.len(), "{counts:?}");
-            assert_eq!(joins.all == 0, modes.len() == starts.len(), "{counts:?}");
+            let traits = traits(counts, closeness);
+            assert!(modes.len() + traits.joins <= starts.len(), "{counts:?}");
+            assert_eq!(traits.joins == 0, modes.len() == starts.len(), "{counts:?}");
         });
     }
 
@@ -559,10 +560,10 @@ mod tests {
     #[test]
     fn every_join_round_a_ring_is_past_the_opening() {
         each_small_ring(|counts, closeness, modes| {
-            let joins = joins(counts, closeness);
-            assert_eq!(joins.past_the_opening, joins.all, "{counts:?}");
+            let traits = traits(counts, closeness);
+            assert_eq!(traits.past_the_opening, traits.joins, "{counts:?}");
             let kept = modes[0].separator == opening(counts);
-            assert_eq!(kept, joins.all == 0, "{counts:?}");
+            assert_eq!(kept, traits.joins == 0, "{counts:?}");
         });
     }
 

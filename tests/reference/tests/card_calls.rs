@@ -161,17 +161,17 @@ fn room_is_for_the_most_entries() {
     assert_eq!(MOST_PRINTED, 12_514);
 }
 
-/// Greens with one hue bin left out, where the ring opens, and blues. The joins are told of what is served only.
+/// Greens with one hue bin left out, where the ring opens, and blues. The traits are those of what is served only.
 #[test]
-fn a_card_is_told_with_the_joins_of_its_hues() {
+fn a_card_comes_with_the_traits_of_its_hues() {
     let greens = [[120, 200, 0], [110, 200, 0], [75, 200, 0], [60, 200, 0]];
     let mut pixels = greens.map(|green| vec![green; 8]).concat();
     pixels.extend([[100, 0, 200], [96, 0, 200]].repeat(40));
     let bytes = pixels.concat();
     for (closeness, number, joins) in [(0, 0, 1), (MOST_CLOSENESS + 1, 8, 0)] {
         let (mut labels, mut same_labels) = (vec![99; 112], vec![99; 112]);
-        let (answer, round) = card_and_hue_joins(&bytes, closeness, &mut labels);
-        assert_eq!((answer.number, round.all), (number, joins));
+        let (answer, round) = card_and_hue_traits(&bytes, closeness, &mut labels);
+        assert_eq!((answer.number, round.joins), (number, joins));
         assert_eq!(card(&bytes, closeness, &mut same_labels), answer);
         assert_eq!(labels, same_labels);
     }

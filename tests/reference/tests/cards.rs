@@ -118,7 +118,7 @@ fn hues_number_from_the_opening() {
         .map(|entry| (entry.hue, [entry.red, entry.green, entry.blue]))
         .collect();
     assert_eq!(found, [(0, green), (1, BLUE), (2, RED)]);
-    assert_eq!(card.hue_joins.all, 0);
+    assert_eq!(card.hue_traits.joins, 0);
     assert_eq!(card.labels[0], 2);
     assert_eq!(card.labels[119], 0);
 }
@@ -135,7 +135,7 @@ fn hues_do_not_number_as_separators_are_listed() {
     let card = card(&repeated(&greens), 0);
     let hues = card.labels.iter().map(|&label| card.entries[label].hue);
     assert!(hues.eq([vec![0; 60], vec![1; 62]].concat()));
-    assert!(card.hue_joins.rotated);
+    assert!(card.hue_traits.rotated);
 }
 
 /// Hue bins 59 and 0 are one hump over the ring's seam, between empty bins; bins 29 and 30 another.
@@ -167,7 +167,7 @@ fn a_hue_mode_goes_on_past_the_opening() {
     let card = card(&pixels, 0);
     let hues = card.labels.iter().map(|&label| card.entries[label].hue);
     assert!(hues.eq([vec![1; 32], vec![0; 80]].concat()));
-    assert_eq!(card.hue_joins.all, 1);
+    assert_eq!(card.hue_traits.joins, 1);
 }
 
 /// One hue, two saturations, the second with two intensities: three entries in this order.

@@ -242,7 +242,7 @@ fn each_mode_of_a_ring_is_a_single_hump_at_every_closeness() {
     let joined = |closeness| {
         rings
             .iter()
-            .any(|ring| rings::joins(ring, closeness).all > 0)
+            .any(|ring| rings::traits(ring, closeness).joins > 0)
     };
     assert!((LEAST_CLOSENESS..=MOST_CLOSENESS).any(joined));
 }

@@ -168,14 +168,14 @@ fn a_ring_is_listed_from_the_lowest_bin_up() {
     }
 }
 
-/// The two calls answer alike; the joins are told of what is served only.
+/// The two calls answer alike; the traits are those of what is served only.
 #[test]
-fn a_ring_is_told_with_its_joins() {
+fn a_ring_comes_with_its_traits() {
     for (closeness, number, joins) in [(-1, 0, 3), (MOST_CLOSENESS + 1, 8, 0)] {
         let histogram = [4, 0, 4, 0, 9, 0, 4, 0, 0, 0];
         let (mut list, mut same_list) = ([99; 10], [99; 10]);
-        let (answer, round) = ring_modes_and_joins(&histogram, closeness, &mut list);
-        assert_eq!((answer.number, round.all), (number, joins));
+        let (answer, round) = ring_modes_and_traits(&histogram, closeness, &mut list);
+        assert_eq!((answer.number, round.joins), (number, joins));
         assert_eq!(ring_modes(&histogram, closeness, &mut same_list), answer);
         assert_eq!(list, same_list);
     }

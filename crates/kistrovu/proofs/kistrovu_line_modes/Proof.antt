@@ -10,7 +10,7 @@ use Rattle.verdict.specs.Settings.{closenessOf}
 use Rattle.segmentation.specs.Joining.{lineSeparators}
 use Rattle.kistrovu.specs.Grounds.{modesNumber}
 use Rattle.kistrovu.specs.Answers.{lineAnswer, lineList}
-use Rattle.kistrovu.proofs.Modes.{modes-accepted, modes-small, line-finished, modes-listed, modes-turned-down}
+use Rattle.kistrovu.proofs.Modes.{modes-accepted, modes-small, line-finished, list-served, list-turned-down}
 use Rattle.kistrovu.proofs.kistrovu_line_modes.Statement.{statement}
 use Rattle.kistrovu.proofs.kistrovu_line_modes.Tie as tie
 
@@ -32,7 +32,7 @@ unfolding lineAnswer lineList
 returns c =
     let m = c .before in
     let s = m .before .before .before in
-    let down = modes-turned-down (s .args .closeness) (s .args .histogram .now) (s .args .separators .now) _ (number m) lineSeparators (c .if1 .taken) in
+    let down = list-turned-down lineSeparators (s .args .closeness) (s .args .histogram .now) (s .args .separators .now) _ (number m) (c .if1 .taken) in
     (down .answer, down .left, λ z. absurd (c .if1 .taken z))
 
 setting-of-requires : tie.Need-setting-of-requires
@@ -60,7 +60,7 @@ returns-2 c =
     let s = m .before .before .before in
     let z = setting .before .if1 .left in
     let is : closenessOf (setting .setting-of .result) ≡ s .args .closeness = setting .setting-of .ensures .1 ∙ as-given s in
-    let listed = modes-listed (s .args .closeness) (s .args .histogram .now) (s .args .separators .now) _ (number m) lineSeparators z _ is _ _ (f .ensures .0) (f .ensures .1) in
+    let listed = list-served lineSeparators (s .args .closeness) (s .args .histogram .now) (s .args .separators .now) _ (number m) z _ is _ _ (f .ensures .0) (f .ensures .1) in
     (listed .answer, listed .left, λ u. line-finished (s .args .closeness) (s .args .histogram .now) (s .args .separators .now) _ (number m) z)
 
 pub kistrovu-line-modes-spec : {M : Type 1} → statement M

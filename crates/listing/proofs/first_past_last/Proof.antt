@@ -5,7 +5,7 @@ use native.Mathlib.Omega.{arith}
 use native.Mathlib.Numerals.{add-one}
 use borrow.Author.Needs.{needs}
 use borrow.Author.Tests.{le-leb, lt-leb}
-use lib.ListN.{length, drop}
+use lib.ListN.{length, drop, getD}
 use Rattle.lists.specs.Lists.{firstIndex}
 use Rattle.lists.proofs.Firsts.{first-found, first-not-yet, first-none-left}
 use Rattle.listing.specs.Numbers.{pastLast}
@@ -43,7 +43,7 @@ returns c =
     let l = in-loop (c .before) in
     let s = l .before in
     let places = s .args .places .now in
-    let found = first-found (pastLast (s .args .ring)) places 0 (l .loop .i) (c .before .before .before .before .loop-test .taken) (le-leb (s .args .ring .bins) _ (c .if1 .taken)) in
+    let found = first-found (pastLast (s .args .ring)) places 0 (l .loop .i) (c .before .before .before .before .loop-test .taken) (le-leb (s .args .ring .bins) (s .args .ring .opening + getD places (l .loop .i) 0) (omega (arith, c .if1 .taken))) in
     omega (arith, l .loop .inv .1, found)
 
 add-i : tie.Need-add-i Inv-loop μ-loop
@@ -59,7 +59,7 @@ loop-again c =
     let places = s .args .places .now in
     let i = l .loop .i in
     let there = c .before .before .before .before .loop-test .taken in
-    let passed = first-not-yet (pastLast (s .args .ring)) places 0 i there (lt-leb (s .args .ring .bins) _ (c .if1 .left)) in
+    let passed = first-not-yet (pastLast (s .args .ring)) places 0 i there (lt-leb (s .args .ring .bins) (s .args .ring .opening + getD places i 0) (omega (arith, c .if1 .left))) in
     (omega arith, omega (arith, l .loop .inv .1, passed, ap (λ (k : ℕ). firstIndex (pastLast (s .args .ring)) (drop k places)) (add-one i)))
 
 returns-2 : tie.Need-returns-2 Inv-loop μ-loop

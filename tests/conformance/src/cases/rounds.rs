@@ -167,7 +167,7 @@ pub const LIST_RULES: &[Rule] = &[
         &[2, 20, 2, 2, 2, 13, 1, 20, 2, 2],
     ),
     (
-        "all come before the opening, bin 8: listed 0, 4; an engine that looks for one from bin 8 to 9 finds none",
+        "all come before the opening, bin 8: listed 0, 4; an engine that lists places from the opening has 2, 6",
         3,
         &[2, 2, 2, 20, 2, 2, 2, 13, 1, 20],
     ),
