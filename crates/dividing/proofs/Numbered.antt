@@ -2,8 +2,8 @@
 use Prim.Native.Nat.{ℕ, suc, _+_, _-_, _%_, _≤_, _<_}
 use mathlib.Core.Path.{_≡_, refl, sym, ap, ap₂, _∙_}
 use mathlib.Core.Bool.{Bool, true}
-use mathlib.Core.List.{List, map, append-assoc}
-use lib.ListN.{length, take, getD, length-map, List·getD-map}
+use mathlib.Core.List.{List, append-assoc}
+use lib.ListN.{length, take, getD}
 use lib.Seq.{take-at}
 use native.Mathlib.Omega.{arith}
 use borrow.Author.Tests.{eqb-true}

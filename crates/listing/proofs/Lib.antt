@@ -1,2 +1,4 @@
-pub mod Rotated
+mod Rotated
+mod Listed
+mod ReadOff
 pub mod Always

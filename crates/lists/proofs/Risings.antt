@@ -1,16 +1,16 @@
 -- A list that rises is the list of the numbers that it contains, from the lowest up. Assumes nothing.
 use Prim.Native.Nat.{ℕ, zero, suc, _+_, _≤_, _<_}
 use mathlib.Core.Path.{_≡_, refl, sym, ap, _∙_}
-use mathlib.Core.Bool.{Bool, true, false}
+use mathlib.Core.Bool.{Bool, true, false, cond}
 use mathlib.Core.List.{List, [], _∷_, _++_}
 use native.Mathlib.Omega.{arith}
 use lib.Dec.{ltb, eqb}
 use lib.ListN.{length, getD}
-use borrow.Author.Tests.{eq-eqb, ne-eqb, lt-ltb}
+use borrow.Author.Tests.{eqb-true, eq-eqb, ne-eqb, ltb-true, lt-ltb}
 use Rattle.lists.specs.Lists.{numbers, filter, countIf, contains, Rising}
 use Rattle.lists.proofs.Cases.{by-order}
 use Rattle.lists.proofs.Filters.{filter-same}
-use Rattle.lists.proofs.Counting.{count-none, count-append}
+use Rattle.lists.proofs.Counting.{count-none, count-append, member-counted}
 
 -- ---- lists that rise
 pub rising-up : (xs : List ℕ) → Rising xs → (i j : ℕ) → i ≤ j → j < length xs → getD xs i 0 ≤ getD xs j 0
@@ -41,6 +41,25 @@ unfolding contains
 contains-turned xs ys b =
     let q : countIf (eqb b) (xs ++ ys) ≡ countIf (eqb b) (ys ++ xs) = omega (arith, count-append (eqb b) xs ys, count-append (eqb b) ys xs) in
     ap (ltb 0) q
+
+-- a number that stands in a list has a place there
+contains-at : (xs : List ℕ) (b : ℕ) → contains xs b ≡ true → (i : ℕ) × (i < length xs) × (getD xs i 0 ≡ b)
+unfolding contains countIf
+contains-at [] b t = absurd (omega (arith, ltb-true 0 0 t))
+contains-at (x ∷ xs) b t = go (eqb b x) refl t (contains-at xs b)
+  where
+    go : (q : Bool) → eqb b x ≡ q → ltb 0 (cond q 1 0 + countIf (eqb b) xs) ≡ true
+        → (contains xs b ≡ true → (i : ℕ) × (i < length xs) × (getD xs i 0 ≡ b)) → (i : ℕ) × (i < suc (length xs)) × (getD (x ∷ xs) i 0 ≡ b)
+    go true q t f = (0, omega arith, sym (eqb-true b x q))
+    go false q t f =
+        let r = f (lt-ltb 0 (countIf (eqb b) xs) (omega (arith, ltb-true 0 (0 + countIf (eqb b) xs) t))) in
+        let l = r .1 in
+        (suc (r .0), omega arith, r .2)
+
+-- what stands in a list stands in another of the same numbers
+pub same-at : (xs ys : List ℕ) → ((b : ℕ) → contains xs b ≡ contains ys b) → (i : ℕ) → i < length xs → (j : ℕ) × (j < length ys) × (getD ys j 0 ≡ getD xs i 0)
+unfolding contains
+same-at xs ys same i l = let b = getD xs i 0 in contains-at ys b (sym (same b) ∙ lt-ltb 0 (countIf (eqb b) xs) (member-counted xs i l))
 
 -- ---- the numbers that a list contains
 -- of tests that agree from a number on

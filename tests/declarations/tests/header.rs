@@ -193,8 +193,8 @@ fn wrong_macros_are_refused() {
             "KISTROVU_MOST_ENTRIES",
         ),
         (
-            "#define KISTROVU_VERSION_MINOR 0",
-            "#define KISTROVU_VERSION_MINOR 1",
+            "#define KISTROVU_VERSION_MINOR ",
+            "#define KISTROVU_VERSION_MINOR 9",
             "KISTROVU_VERSION_MINOR",
         ),
         (

@@ -14,7 +14,7 @@ use Rattle.segmentation.proofs.RingPlaces.{opening-in}
 use Rattle.segmentation.proofs.RingModes.{ring-starts-listed}
 use Rattle.segmentation.proofs.Listed.{ring-modes-most}
 use Rattle.listing.specs.Numbers.{pastLast, binsFrom}
-use Rattle.listing.proofs.Always.{startPlaces, ringOf, listed, listed-count}
+use Rattle.listing.proofs.Listed.{startPlaces, ringOf, listed, listed-count}
 use Rattle.listing.proofs.ring_separators.Statement.{statement}
 use Rattle.listing.proofs.ring_separators.Tie as tie
 
