@@ -4,7 +4,7 @@ use Prim.Native.Nat.{suc}
 use lib.ListN.{take}
 use Rattle.swatch.specs.Reading.{longestSwatch}
 use Rattle.kistrovu.specs.declared.Printed.{Printed}
-use Rattle.kistrovu.specs.Grounds.{textNumber}
+use Rattle.grounds.specs.Grounds.{textNumber}
 use Rattle.kistrovu.specs.Answers.{printedAnswer}
 use Rattle.kistrovu.proofs.Texts.{long-text-printed}
 use Rattle.card.specs.Program.{mostRead, programAnswer, LongInput}

@@ -5,7 +5,7 @@ use mathlib.Core.List.{List}
 use lib.ListN.{length, take}
 use Rattle.swatch.specs.Reading.{longestSwatch}
 use Rattle.kistrovu.specs.declared.Printed.{Printed}
-use Rattle.kistrovu.specs.Grounds.{textNumber}
+use Rattle.grounds.specs.Grounds.{textNumber}
 use Rattle.kistrovu.specs.Answers.{served, printedAnswer, groundAnswer}
 
 -- X7: the card of the text if it is served, else the line of its ground

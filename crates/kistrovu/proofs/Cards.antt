@@ -21,10 +21,10 @@ use Rattle.palette.proofs.Always.{always-sound}
 use Rattle.palette.proofs.Triples.{pixels-length, pixels-bytes}
 use Rattle.making.specs.Making.{cardEntries, labelsLeft}
 use Rattle.kistrovu.specs.declared.Card.{Card}
-use Rattle.kistrovu.specs.Grounds.{firstGround, badBytes, manyPixels, badCloseness, badLabels, manyEntries, askedNumber, cardNumber}
+use Rattle.grounds.specs.Grounds.{firstGround, badBytes, manyPixels, badCloseness, badLabels, manyEntries, askedNumber, cardNumber}
 use Rattle.kistrovu.specs.Answers.{servedEntries, cardAnswer, labelList}
 use Rattle.kistrovu.specs.Facts.{SoundAnswer, CardAgain}
-use Rattle.kistrovu.proofs.Served.{closeness-offered, ground-none, grounds-served, grounds-turned-down}
+use Rattle.grounds.proofs.Served.{closeness-offered, ground-none, grounds-served, grounds-turned-down}
 
 abbrev pub made : ℕ → ℕ → List Entry → Card
 made n len es = record { number = n; len = len; entries = es }

@@ -11,7 +11,7 @@ use Rattle.pooling.specs.declared.Block.{Block}
 use Rattle.pooling.specs.declared.Place.{Place}
 use Rattle.pooling.specs.Blocks.{Direction, direction, fitted, places}
 use Rattle.pooling.proofs.Places.{places-blocks}
-use Rattle.kistrovu.specs.Grounds.{fitNumber}
+use Rattle.grounds.specs.Grounds.{fitNumber}
 use Rattle.kistrovu.specs.Answers.{fitAnswer}
 
 -- a figure of each bin's block, in the first places of zeros

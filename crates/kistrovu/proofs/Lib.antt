@@ -1,4 +1,3 @@
-pub mod Served
 mod FitAnswers
 mod Modes
 pub mod Cards

@@ -14,9 +14,9 @@ use Rattle.segmentation.proofs.Always.{always-finished, ring-always-finished}
 use Rattle.listing.specs.Listing.{RingOrdered}
 use Rattle.listing.proofs.Always.{ring-always-ordered}
 use Rattle.kistrovu.specs.declared.ModesAnswer.{ModesAnswer}
-use Rattle.kistrovu.specs.Grounds.{modesNumber}
+use Rattle.grounds.specs.Grounds.{modesNumber}
 use Rattle.kistrovu.specs.Answers.{modesAnswer, modesList}
-use Rattle.kistrovu.proofs.Served.{Accepted, fit-served, verdict-served, modes-served}
+use Rattle.grounds.proofs.Served.{Accepted, fit-served, verdict-served, modes-served}
 
 -- ---- what a served call knows of its histogram and its list
 pub record ModesAccepted (e : Closeness) (h : List ℕ) (places : ℕ) : Type 0 where

@@ -25,7 +25,7 @@ use Rattle.swatch.specs.Written.{writtenSwatch}
 use Rattle.swatch.proofs.Long.{long-text}
 use Rattle.swatch.proofs.SwatchRead.{swatch-read}
 use Rattle.kistrovu.specs.declared.printing.Outcome.{Outcome}
-use Rattle.kistrovu.specs.Grounds.{firstGround, programCloseness, textNumber}
+use Rattle.grounds.specs.Grounds.{firstGround, programCloseness, textNumber}
 use Rattle.kistrovu.specs.Answers.{printed, printedBytes, printedAnswer}
 use Rattle.kistrovu.specs.Facts.{LongText, PrintedFits, WrittenServed}
 use Rattle.kistrovu.specs.Texts.{PixelsPrinted, TextPrinted}

@@ -17,7 +17,7 @@ use Rattle.palette.specs.declared.Entry.{Entry}
 use Rattle.palette.specs.Cards.{pixelsOf, entries, labels, mostEntries, noEntry}
 use Rattle.swatch.specs.Input.{bytesOf}
 use Rattle.swatch.specs.Output.{printedLine, printedCard, printedMost}
-use Rattle.kistrovu.specs.Grounds.{fitNumber, verdictNumber, modesNumber, cardNumber, programCloseness, textNumber}
+use Rattle.grounds.specs.Grounds.{fitNumber, verdictNumber, modesNumber, cardNumber, programCloseness, textNumber}
 use Rattle.kistrovu.specs.declared.MeasuresAnswer.{MeasuresAnswer}
 use Rattle.kistrovu.specs.declared.FitAnswer.{FitAnswer}
 use Rattle.kistrovu.specs.declared.VerdictAnswer.{VerdictAnswer}

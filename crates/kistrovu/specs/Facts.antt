@@ -17,7 +17,7 @@ use Rattle.swatch.specs.Reading.{longestSwatch}
 use Rattle.swatch.specs.Output.{printedCard, printedMost}
 use Rattle.swatch.specs.Written.{writtenSwatch, MakesSwatch}
 use Rattle.kistrovu.specs.declared.Card.{Card}
-use Rattle.kistrovu.specs.Grounds.{cardNumber, programCloseness, textNumber}
+use Rattle.grounds.specs.Grounds.{cardNumber, programCloseness, textNumber}
 use Rattle.kistrovu.specs.Answers.{cardAnswer, labelList, printed, printedAnswer}
 
 -- D2 and D3: P holds if the call is served, that is, if its number n is 0

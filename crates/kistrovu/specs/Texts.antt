@@ -11,7 +11,7 @@ use Rattle.palette.specs.Cards.{pixelsOf, entries, mostEntries}
 use Rattle.palette.specs.Sound.{SoundCard}
 use Rattle.swatch.specs.Input.{bytesOf}
 use Rattle.swatch.specs.Output.{printedCard}
-use Rattle.kistrovu.specs.Grounds.{programCloseness, textNumber}
+use Rattle.grounds.specs.Grounds.{programCloseness, textNumber}
 use Rattle.kistrovu.specs.Answers.{printed}
 use Rattle.kistrovu.specs.Facts.{IfServed}
 use Rattle.kistrovu.specs.declared.printing.Outcome.{Outcome}

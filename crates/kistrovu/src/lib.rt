@@ -17,7 +17,7 @@ ghost use Rattle.listing.specs.Listing.{RingOrdered};
 ghost use Rattle.palette.specs.Cards.{pixelsOf};
 ghost use Rattle.palette.specs.Sound.{SoundCard};
 ghost use Rattle.swatch.specs.Input.{bytesOf};
-ghost use Rattle.kistrovu.specs.Grounds.{programCloseness};
+ghost use Rattle.grounds.specs.Grounds.{programCloseness};
 ghost use Rattle.kistrovu.specs.Answers.{
   libraryVersion,
   measuresAnswer,
@@ -34,7 +34,6 @@ ghost use Rattle.kistrovu.specs.Answers.{
 };
 ghost use Rattle.kistrovu.specs.Facts.{IfServed, SoundAnswer};
 
-mod grounds;
 mod printing;
 
 // 10,000 · major + 100 · minor + patch. Its source is the file VERSION; tools/version writes it here.

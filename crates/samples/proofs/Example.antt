@@ -12,7 +12,7 @@ use Rattle.palette.specs.Cards.{members, histogramIn, meanBy, meanOf, entryOf, 
 use Rattle.swatch.specs.Input.{linesOf, afterSpaces, decimal, numeral, field, pieces, fieldsOf, headerOf, sizeOf, pixelLine, pixelBytes, bytesOf}
 use Rattle.swatch.specs.Reading.{mostSwatchPixels}
 use Rattle.swatch.specs.Output.{printedIn, lineIn, printedEntry, printedCard}
-use Rattle.kistrovu.specs.Grounds.{firstGround, programCloseness, textNumber}
+use Rattle.grounds.specs.Grounds.{firstGround, programCloseness, textNumber}
 use Rattle.kistrovu.specs.Answers.{printed}
 use Rattle.samples.specs.Printed.{PrintsItsCard}
 

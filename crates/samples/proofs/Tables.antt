@@ -10,7 +10,7 @@ use Rattle.segmentation.specs.Joining.{riseOf, fallOf, joined, join, riseCost, 
 use Rattle.segmentation.specs.Around.{twice, nextRound, joinTwice, joinRound}
 use Rattle.segmentation.specs.Ring.{opening, opened, ringBin, linePlace, fromOpening, twoTurns, ringModes, ringStarts, inRound, inRingMode}
 use Rattle.listing.specs.Listing.{ringSeparators}
-use Rattle.kistrovu.specs.Grounds.{firstGround, verdictNumber}
+use Rattle.grounds.specs.Grounds.{firstGround, verdictNumber}
 use Rattle.samples.specs.Starred.{StarredHold}
 use Rattle.samples.specs.Guards.{GuardsHold}
 use Rattle.samples.specs.Rings.{RingsHold, JoinsRoundHold}

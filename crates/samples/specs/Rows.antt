@@ -19,7 +19,7 @@ use Rattle.segmentation.specs.Segments.{Segment, inMode}
 use Rattle.segmentation.specs.Joining.{lineModes, lineSeparators}
 use Rattle.segmentation.specs.Ring.{ringModes, inRingMode}
 use Rattle.listing.specs.Listing.{ringSeparators}
-use Rattle.kistrovu.specs.Grounds.{verdictNumber}
+use Rattle.grounds.specs.Grounds.{verdictNumber}
 
 pub data Sample : Type 0 where
   -- R, G, B; then Q, or the four measures

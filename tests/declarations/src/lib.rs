@@ -34,7 +34,7 @@ pub const FILES: [&str; 6] = [
 
 /// The words of the grounds, their definitions, and the declarations that are compared with all of these.
 pub const METHOD: &str = "docs/METHOD.md";
-pub const GROUNDS: &str = "crates/kistrovu/specs/Grounds.antt";
+pub const GROUNDS: &str = "crates/grounds/specs/Grounds.antt";
 pub const HEADER: &str = "include/kistrovu.h";
 pub const RAW: &str = "bindings/rust/src/raw.rs";
 

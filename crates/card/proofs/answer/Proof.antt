@@ -3,7 +3,7 @@ use mathlib.Core.Path.{_≡_, sym, ap, _∙_}
 use borrow.Author.Needs.{needs}
 use borrow.Author.Tests.{eq-eqb, ne-eqb}
 use Rattle.kistrovu.specs.declared.Printed.{Printed}
-use Rattle.kistrovu.specs.Grounds.{textNumber}
+use Rattle.grounds.specs.Grounds.{textNumber}
 use Rattle.kistrovu.specs.Answers.{printedAnswer, groundAnswer}
 use Rattle.card.specs.Program.{programAnswer}
 use Rattle.card.proofs.answer.Statement.{statement}

@@ -7,7 +7,7 @@ use lib.ListN.{length, replicate, length-append}
 use Rattle.lists.specs.Lists.{padded}
 use Rattle.lists.proofs.Cases.{by-cond}
 use Rattle.swatch.specs.Output.{printedLine, printedMost}
-use Rattle.kistrovu.specs.Grounds.{textNumber}
+use Rattle.grounds.specs.Grounds.{textNumber}
 use Rattle.kistrovu.specs.Answers.{printed, printedBytes, printedAnswer, groundAnswer}
 use Rattle.swatch.specs.Reading.{longestSwatch, mostSwatchPixels}
 use Rattle.card.specs.Program.{mostRead, programAnswer, HasRoom}

@@ -12,7 +12,7 @@ use Rattle.making.specs.Making.{cardEntries, labelsLeft}
 use Rattle.palette.specs.Cards.{pixelsOf, entries, mostEntries, noEntry}
 use Rattle.verdict.specs.Test.{Closeness}
 use Rattle.verdict.specs.Settings.{closenessOf}
-use Rattle.kistrovu.specs.Grounds.{askedNumber, cardNumber}
+use Rattle.grounds.specs.Grounds.{askedNumber, cardNumber}
 use Rattle.kistrovu.proofs.Cards.{
   made,
   Asked,

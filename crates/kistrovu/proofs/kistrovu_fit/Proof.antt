@@ -3,7 +3,7 @@ use mathlib.Core.Path.{sym, _∙_}
 use native.Mathlib.Omega.{arith}
 use Rattle.pooling.specs.Blocks.{direction}
 use Rattle.pooling.proofs.Always.{always-pooled}
-use Rattle.kistrovu.proofs.Served.{fit-served}
+use Rattle.grounds.proofs.Served.{fit-served}
 use Rattle.kistrovu.proofs.FitAnswers.{fit-answer-served, fit-answer-turned-down}
 use borrow.Author.Needs.{needs}
 use Rattle.kistrovu.proofs.kistrovu_fit.Statement.{statement}

@@ -8,7 +8,7 @@ use mir.ValLaws.{toZ-ofZ}
 use Rattle.verdict.specs.Test.{Closeness}
 use Rattle.verdict.specs.Settings.{closenessOf}
 use Rattle.segmentation.specs.Joining.{lineSeparators}
-use Rattle.kistrovu.specs.Grounds.{modesNumber}
+use Rattle.grounds.specs.Grounds.{modesNumber}
 use Rattle.kistrovu.specs.Answers.{lineAnswer, lineList}
 use Rattle.kistrovu.proofs.Modes.{modes-accepted, modes-small, line-finished, list-served, list-turned-down}
 use Rattle.kistrovu.proofs.kistrovu_line_modes.Statement.{statement}

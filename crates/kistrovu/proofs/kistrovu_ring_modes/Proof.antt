@@ -8,7 +8,7 @@ use mir.ValLaws.{toZ-ofZ}
 use Rattle.verdict.specs.Test.{Closeness}
 use Rattle.verdict.specs.Settings.{closenessOf}
 use Rattle.listing.specs.Listing.{ringSeparators}
-use Rattle.kistrovu.specs.Grounds.{modesNumber}
+use Rattle.grounds.specs.Grounds.{modesNumber}
 use Rattle.kistrovu.specs.Answers.{ringAnswer, ringList}
 use Rattle.kistrovu.proofs.Modes.{modes-accepted, ring-finished, list-served, list-turned-down}
 use Rattle.kistrovu.proofs.kistrovu_ring_modes.Statement.{statement}

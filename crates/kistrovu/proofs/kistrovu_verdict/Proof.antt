@@ -9,9 +9,9 @@ use mir.ValLaws.{toZ-ofZ}
 use Rattle.pooling.specs.Blocks.{direction}
 use Rattle.verdict.specs.Test.{Closeness, verdictOf}
 use Rattle.verdict.proofs.Sound.{verdict-sound}
-use Rattle.kistrovu.specs.Grounds.{verdictNumber}
+use Rattle.grounds.specs.Grounds.{verdictNumber}
 use Rattle.kistrovu.specs.Answers.{noVerdict, verdictAnswer}
-use Rattle.kistrovu.proofs.Served.{fit-served, verdict-served}
+use Rattle.grounds.proofs.Served.{fit-served, verdict-served}
 use Rattle.kistrovu.proofs.kistrovu_verdict.Statement.{statement}
 use Rattle.kistrovu.proofs.kistrovu_verdict.Tie as tie
 

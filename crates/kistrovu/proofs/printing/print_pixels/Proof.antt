@@ -18,7 +18,7 @@ use Rattle.palette.proofs.Triples.{pixels-length, pixels-bytes}
 use Rattle.swatch.specs.Reading.{mostSwatchPixels}
 use Rattle.swatch.specs.Output.{printedCard, printedMost}
 use Rattle.swatch.proofs.PrintedLengths.{printed-fits}
-use Rattle.kistrovu.specs.Grounds.{programCloseness}
+use Rattle.grounds.specs.Grounds.{programCloseness}
 use Rattle.kistrovu.proofs.Cards.{total-is}
 use Rattle.kistrovu.proofs.Texts.{entries-held}
 use borrow.Author.Needs.{needs}

@@ -5,10 +5,10 @@ use borrow.Author.Tests.{lt-ltb, le-ltb}
 use mir.Syntax.{w32}
 use mir.ValLaws.{toZ-ofZ}
 use Rattle.verdict.specs.Test.{Closeness}
-use Rattle.kistrovu.specs.Grounds.{firstGround, verdictNumber}
-use Rattle.kistrovu.proofs.Served.{modes-turned-down, modes-asked}
-use Rattle.kistrovu.proofs.grounds.modes_number.Statement.{statement}
-use Rattle.kistrovu.proofs.grounds.modes_number.Tie as tie
+use Rattle.grounds.specs.Grounds.{firstGround, verdictNumber}
+use Rattle.grounds.proofs.Served.{modes-turned-down, modes-asked}
+use Rattle.grounds.proofs.modes_number.Statement.{statement}
+use Rattle.grounds.proofs.modes_number.Tie as tie
 
 verdict-number-requires : tie.Need-verdict-number-requires
 verdict-number-requires c κs = search needs

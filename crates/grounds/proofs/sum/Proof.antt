@@ -7,8 +7,8 @@ use lib.ListN.{length, take}
 use lib.Seq.{take-all}
 use Rattle.lists.specs.Lists.{total}
 use Rattle.lists.proofs.Sums.{total-more}
-use Rattle.kistrovu.proofs.grounds.sum.Statement.{statement}
-use Rattle.kistrovu.proofs.grounds.sum.Tie as tie
+use Rattle.grounds.proofs.sum.Statement.{statement}
+use Rattle.grounds.proofs.sum.Tie as tie
 
 abbrev Inv-loop : tie.InvT-loop
 Inv-loop h sum₀ i₀ sum i = (i ≤ length h) × (sum ≡ total (take i h)) × (sum ≤ i * 2 ^ 32)

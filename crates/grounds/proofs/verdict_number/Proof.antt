@@ -5,10 +5,10 @@ use borrow.Author.Needs.{needs}
 use mir.Syntax.{w32}
 use mir.ValLaws.{toZ-ofZ}
 use Rattle.verdict.specs.Test.{Closeness}
-use Rattle.kistrovu.specs.Grounds.{firstGround, badCloseness}
-use Rattle.kistrovu.proofs.Served.{ground-holds, ground-passes, verdict-turned-down, verdict-asked}
-use Rattle.kistrovu.proofs.grounds.verdict_number.Statement.{statement}
-use Rattle.kistrovu.proofs.grounds.verdict_number.Tie as tie
+use Rattle.grounds.specs.Grounds.{firstGround, badCloseness}
+use Rattle.grounds.proofs.Served.{ground-holds, ground-passes, verdict-turned-down, verdict-asked}
+use Rattle.grounds.proofs.verdict_number.Statement.{statement}
+use Rattle.grounds.proofs.verdict_number.Tie as tie
 
 fit-number-requires : tie.Need-fit-number-requires
 fit-number-requires c κs = search needs

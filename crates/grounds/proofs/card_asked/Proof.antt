@@ -9,10 +9,10 @@ use mir.Syntax.{w32}
 use mir.ValLaws.{toZ-ofZ}
 use Rattle.verdict.specs.Test.{Closeness}
 use Rattle.palette.specs.Sound.{mostPixels}
-use Rattle.kistrovu.specs.Grounds.{Ground, firstGround, badCloseness, badLabels, askedNumber}
-use Rattle.kistrovu.proofs.Served.{ground-holds, ground-passes}
-use Rattle.kistrovu.proofs.grounds.card_asked.Statement.{statement}
-use Rattle.kistrovu.proofs.grounds.card_asked.Tie as tie
+use Rattle.grounds.specs.Grounds.{Ground, firstGround, badCloseness, badLabels, askedNumber}
+use Rattle.grounds.proofs.Served.{ground-holds, ground-passes}
+use Rattle.grounds.proofs.card_asked.Statement.{statement}
+use Rattle.grounds.proofs.card_asked.Tie as tie
 
 returns : tie.Need-returns
 unfolding askedNumber firstGround

@@ -14,7 +14,7 @@ use Rattle.lists.proofs.Signed.{nlt-le-ℤ}
 use Rattle.lists.specs.Lists.{total}
 use Rattle.verdict.specs.Test.{Closeness, leastCloseness, mostCloseness}
 use Rattle.verdict.specs.Settings.{Offered}
-use Rattle.kistrovu.specs.Grounds.{Ground, firstGround, badLength, largeSum, badCloseness, fewPlaces, fitNumber, verdictNumber, modesNumber}
+use Rattle.grounds.specs.Grounds.{Ground, firstGround, badLength, largeSum, badCloseness, fewPlaces, fitNumber, verdictNumber, modesNumber}
 
 -- ---- grounds in sequence
 pub ground-holds : (g : Ground) (gs : List Ground) → g .holds ≡ true → firstGround (g ∷ gs) ≡ g .number

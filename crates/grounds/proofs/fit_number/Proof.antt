@@ -1,9 +1,9 @@
 -- `fit_number` meets its contract: the grounds in their sequence. Assumes nothing.
 use borrow.Author.Needs.{needs}
 use borrow.Author.Tests.{lt-ltb, le-ltb}
-use Rattle.kistrovu.specs.Grounds.{firstGround, fitNumber}
-use Rattle.kistrovu.proofs.grounds.fit_number.Statement.{statement}
-use Rattle.kistrovu.proofs.grounds.fit_number.Tie as tie
+use Rattle.grounds.specs.Grounds.{firstGround, fitNumber}
+use Rattle.grounds.proofs.fit_number.Statement.{statement}
+use Rattle.grounds.proofs.fit_number.Tie as tie
 
 returns : tie.Need-returns
 unfolding fitNumber firstGround

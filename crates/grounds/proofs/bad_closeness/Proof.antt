@@ -7,8 +7,8 @@ use mir.Syntax.{w32}
 use mir.Val.{toZ, ofZ}
 use mir.ValLaws.{toZ-ofZ}
 use Rattle.verdict.specs.Test.{leastCloseness, mostCloseness}
-use Rattle.kistrovu.proofs.grounds.bad_closeness.Statement.{statement}
-use Rattle.kistrovu.proofs.grounds.bad_closeness.Tie as tie
+use Rattle.grounds.proofs.bad_closeness.Statement.{statement}
+use Rattle.grounds.proofs.bad_closeness.Tie as tie
 
 -- the machine's number is the closeness
 as-given : (s : tie.Start) → toZ w32 (ofZ w32 (s .args .closeness)) ≡ s .args .closeness

@@ -6,7 +6,7 @@ ghost use mathlib.Core.Path.{_≡_};
 ghost use Prim.Native.Nat.{_≤_};
 ghost use lib.ListN.{length};
 ghost use Rattle.lists.specs.Lists.{total};
-ghost use Rattle.kistrovu.specs.Grounds.{badCloseness, fitNumber, verdictNumber, modesNumber, askedNumber};
+ghost use Rattle.grounds.specs.Grounds.{badCloseness, fitNumber, verdictNumber, modesNumber, askedNumber};
 
 // The sum of the counts. There are at most 256 of them, so it cannot overflow.
 fn sum(h: &[u32]) -> u64
