@@ -245,7 +245,7 @@ fn ring_table(counts: &[u32], closeness: i32, table: &mut [u16]) -> usize {
     }
     let mut list = [0; HUES];
     let modes = ring_modes(&turns, closeness, &mut list);
-    // The last mode goes on past the opening, to the first separator.
+    // The last mode goes on past the opening, to the separator of mode 0.
     let mut opened = [modes as u16; HUES];
     number(&list[..modes], 1, &mut opened);
     for place in 0..HUES {

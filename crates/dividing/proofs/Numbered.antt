@@ -24,7 +24,7 @@ use Rattle.segmentation.proofs.Finishing.{modes-cut, separators-length}
 use Rattle.segmentation.proofs.OneMode.{one-mode, in-mode, in-last-mode}
 use Rattle.segmentation.proofs.RoundOne.{in-arc, left-or, right-or}
 use Rattle.segmentation.proofs.RingPlaces.{place-in, place-bin}
-use Rattle.segmentation.proofs.RingModes.{ring-cut, ring-one-mode, ring-starts-listed}
+use Rattle.segmentation.proofs.RingModes.{ring-cut, ring-one-mode, ring-starts-taken}
 use Rattle.palette.specs.Levels.{hue}
 use Rattle.dividing.specs.Splitting.{modeOf}
 use Rattle.dividing.specs.Numbering.{Rises, ModeAt, PlacesNumbered, BinsNumbered, LineNumbered}
@@ -129,7 +129,7 @@ module _ (e : Closeness) (h : List ℕ) (two : 2 ≤ length h) where
   pub ring-lent : (buffer list : List ℕ) (n : ℕ) → n ≡ length rings → list ≡ over (startsOf rings) buffer → Lent rings list n
   ring-lent buffer list n count is =
       let c = ring-cut h two e in
-      lent rings (c .nonEmpty) (c .chain) list n count (ring-starts-listed e h buffer list n count is)
+      lent rings (c .nonEmpty) (c .chain) list n count (ring-starts-taken e h buffer list n count is)
 
   -- the mode of a place is the one that it lies in: before the first separator the last, which has it a turn later
   ring-mode-in : (m i : ℕ) → ModeAt (startsOf rings) m i → i < length h → inRound (length h) rings m i ≡ true

@@ -68,9 +68,11 @@ lineAnswer e h places = modesAnswer (lineSeparators e h) (modesNumber e h places
 unfoldable pub ringAnswer : Closeness → List ℕ → ℕ → ModesAnswer
 ringAnswer e h places = modesAnswer (ringSeparators e h) (modesNumber e h places)
 
+-- A4, S10
 unfoldable pub lineList : Closeness → List ℕ → List ℕ → List ℕ
 lineList e h list = modesList (lineSeparators e h) (modesNumber e h (length list)) list
 
+-- A4, R8
 unfoldable pub ringList : Closeness → List ℕ → List ℕ → List ℕ
 ringList e h list = modesList (ringSeparators e h) (modesNumber e h (length list)) list
 

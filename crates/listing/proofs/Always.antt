@@ -1,4 +1,4 @@
--- Every ring's list is in order, and says which bins lie in one mode. Assumes nothing.
+-- Every ring's list is in order, and says which bins share a mode. Assumes nothing.
 use Rattle.listing.specs.Listing.{RingAlwaysOrdered}
 use Rattle.listing.proofs.Listed.{listed-starts, listed-count, listed-rises}
 use Rattle.listing.proofs.ReadOff.{read-between, read-before}

@@ -18,8 +18,8 @@ use Rattle.segmentation.specs.Ring.{opening, ringBin, linePlace, ringModes, rin
 use Rattle.segmentation.proofs.Kept.{chain-starts, chain-ends}
 use Rattle.segmentation.proofs.RingPlaces.{place-bin}
 use Rattle.segmentation.proofs.RoundOne.{arc-ends}
-use Rattle.segmentation.proofs.RingModes.{ring-cut}
-use Rattle.listing.specs.Listing.{ringSeparators, StartsAt}
+use Rattle.segmentation.proofs.RingModes.{ring-cut, ring-one-mode}
+use Rattle.listing.specs.Listing.{ringSeparators, InModeFrom}
 use Rattle.listing.proofs.Listed.{listed-starts, listed-rises}
 
 -- of n bins, b is d bins up from y: without going round if y is at most b, else round past the last one
@@ -75,7 +75,7 @@ module _ (e : Closeness) (h : List ℕ) (two : 2 ≤ length h) where
 
   -- ---- place r, of the first turn or of the second, lies in mode m
   module _ (m r : ℕ) (k : m < length (ringModes e h)) (arc : inArc (mode m) r ≡ true) where
-    -- from where any mode starts it is as far up to r or farther, and less than a turn
+    -- from the start of any mode up to r it is at least as far as from that of mode m, and less than a turn
     start-farther : (j : ℕ) → j < length (ringModes e h) → (d : ℕ) × (r - mode m .start ≤ d) × (d < length h) × (ringBin h (mode j .start + d) ≡ ringBin h r)
     start-farther j l =
         let ss = ringModes e h in
@@ -132,17 +132,21 @@ module _ (e : Closeness) (h : List ℕ) (two : 2 ≤ length h) where
   up : (i j : ℕ) → i ≤ j → j < length list → binAt list i ≤ binAt list j
   up = rising-up list (listed-rises e h two)
 
-  pub read-between : (i b : ℕ) → i < length list → binAt list i ≤ b → b < length h → (suc i < length list → b < binAt list (suc i)) → StartsAt e h b (binAt list i)
-  read-between i b l low below next m k t =
+  -- the mode of a bin starts where it is said to, if every mode that has the bin does
+  mode-from : (b s : ℕ) → ((m : ℕ) → m < length (ringModes e h) → inRingMode e h m b ≡ true → binAt starts m ≡ s) → InModeFrom e h s b
+  mode-from b s f = let one = ring-one-mode h two e b in (one .number, one .inRange, one .passes, f (one .number) (one .inRange) (one .passes))
+
+  pub read-between : (i b : ℕ) → i < length list → binAt list i ≤ b → b < length h → (suc i < length list → b < binAt list (suc i)) → InModeFrom e h (binAt list i) b
+  read-between i b l low below next = mode-from b (binAt list i) (λ m k t.
       let s = start-listed m k in
       let j = s .0 in
       let near = none-nearer b m k t i l below .upTo low in
       by-order i j
       (λ a. absurd (omega (arith, s .2, near .1, next (omega (arith, s .1)), up (suc i) j a (s .1))))
-      (λ a. omega (arith, s .2, near .0, up j i a l))
+      (λ a. omega (arith, s .2, near .0, up j i a l)))
 
-  pub read-before : (b : ℕ) → b < binAt list 0 → StartsAt e h b (binAt list (length list - 1))
-  read-before b low m k t =
+  pub read-before : (b : ℕ) → b < binAt list 0 → InModeFrom e h (binAt list (length list - 1)) b
+  read-before b low = mode-from b (binAt list (length list - 1)) (λ m k t.
       let s = start-listed m k in
       let j = s .0 in
       let inside : j < length list = s .1 in
@@ -150,4 +154,4 @@ module _ (e : Closeness) (h : List ℕ) (two : 2 ≤ length h) where
       let above : b < binAt starts m = omega (arith, s .2, up 0 j (omega arith) inside) in
       let below : b < length h = omega (arith, start-bin m k, bin-in (mode m .start)) in
       let past : b < binAt list last = omega (arith, up 0 last (omega arith) (omega arith)) in
-      omega (arith, s .2, up j last (omega arith) (omega arith), none-nearer b m k t last (omega arith) below .past above past)
+      omega (arith, s .2, up j last (omega arith) (omega arith), none-nearer b m k t last (omega arith) below .past above past))

@@ -13,9 +13,9 @@ use Rattle.segmentation.specs.Ring.{ringModes, ringStarts, inRingMode}
 unfoldable pub ringSeparators : Closeness → List ℕ → List ℕ
 ringSeparators e h = filter (contains (ringStarts e h)) (numbers 0 (length h))
 
--- R7: the mode that bin b lies in starts at bin s
-abbrev pub StartsAt : Closeness → List ℕ → ℕ → ℕ → Type 0
-StartsAt e h b s = (m : ℕ) → m < length (ringModes e h) → inRingMode e h m b ≡ true → binAt (ringStarts e h) m ≡ s
+-- R7: bin b lies in a mode that starts at bin s. By RingFinished it lies in no other
+abbrev pub InModeFrom : Closeness → List ℕ → (s b : ℕ) → Type 0
+InModeFrom e h s b = (m : ℕ) × (m < length (ringModes e h)) × (inRingMode e h m b ≡ true) × (binAt (ringStarts e h) m ≡ s)
 
 -- what holds of every ring's list
 pub record RingOrdered (e : Closeness) (h : List ℕ) : Type 0 where
@@ -26,8 +26,8 @@ pub record RingOrdered (e : Closeness) (h : List ℕ) : Type 0 where
   -- R7, read off the list: the bins from a separator up to the one before the next lie in the mode that starts there, and the bins before the first lie in the
   -- mode of the last
   pub between : (i b : ℕ) → i < length (ringSeparators e h) → binAt (ringSeparators e h) i ≤ b → b < length h
-      → (suc i < length (ringSeparators e h) → b < binAt (ringSeparators e h) (suc i)) → StartsAt e h b (binAt (ringSeparators e h) i)
-  pub before : (b : ℕ) → b < binAt (ringSeparators e h) 0 → StartsAt e h b (binAt (ringSeparators e h) (length (ringSeparators e h) - 1))
+      → (suc i < length (ringSeparators e h) → b < binAt (ringSeparators e h) (suc i)) → InModeFrom e h (binAt (ringSeparators e h) i) b
+  pub before : (b : ℕ) → b < binAt (ringSeparators e h) 0 → InModeFrom e h (binAt (ringSeparators e h) (length (ringSeparators e h) - 1)) b
 
 -- proved in proofs/Always
 abbrev pub RingAlwaysOrdered : Type 0

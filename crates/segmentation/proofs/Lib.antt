@@ -21,4 +21,4 @@ pub mod RunsInside
 pub mod RingModes
 pub mod Filled
 pub mod Loose
-pub mod Listed
+pub mod HeldStarts

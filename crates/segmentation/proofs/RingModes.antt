@@ -30,6 +30,7 @@ use Rattle.segmentation.specs.Finished.{Cut, SingleHump, RingCut, Finish
 use Rattle.segmentation.specs.Runs.{OnRing, NoneAmong}
 use Rattle.segmentation.proofs.Kept.{Run, between, chain-ends, join-starts, hump-at, at-hump}
 use Rattle.segmentation.proofs.Settled.{unjoinable, line-settled, one-joins-none, join-all-keeps, joins-none, settled, none-joinable}
+use Rattle.segmentation.proofs.ModeStarts.{startsOf, starts-length}
 use Rattle.segmentation.proofs.FirstCut.{separatorAt, first-segment, first-neighbours}
 use Rattle.segmentation.proofs.Finishing.{part-length, kept, modes-cut, modes-humps}
 use Rattle.segmentation.proofs.RingPlaces.{opening-in, opening-lowest, opening-first, ring-length, ring-bins, place-in, place-bin}
@@ -294,6 +295,6 @@ ring-finished e h two bins counts =
     }
 
 -- ---- where the modes start, as the code has it in the first n places
-pub ring-starts-listed : (e : Closeness) (h buffer list : List ℕ) (n : ℕ) → n ≡ length (ringModes e h) → list ≡ over (map (λ (s : Segment). s .start) (ringModes e h)) buffer
-    → take n list ≡ map (λ (s : Segment). s .start) (ringModes e h)
-ring-starts-listed e h buffer list n count is = ap (take n) is ∙ over-front _ buffer n (count ∙ sym (length-map (ringModes e h) (λ (s : Segment). s .start)))
+pub ring-starts-taken : (e : Closeness) (h buffer list : List ℕ) (n : ℕ) → n ≡ length (ringModes e h) → list ≡ over (startsOf (ringModes e h)) buffer
+    → take n list ≡ startsOf (ringModes e h)
+ring-starts-taken e h buffer list n count is = ap (take n) is ∙ over-front _ buffer n (count ∙ sym (starts-length (ringModes e h)))

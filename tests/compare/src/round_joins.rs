@@ -130,15 +130,15 @@ mod tests {
     #[test]
     fn rings_are_counted_by_kind() {
         let mut tally = RoundTally::default();
-        for (all, longest, modes_left, rotated) in [
+        for (joins, longest, modes_left, rotated) in [
             (0, 0, 3, true),
             (1, 2, 1, false),
             (2, 3, 2, true),
             (0, 0, 2, true),
         ] {
             let traits = RingTraits {
-                joins: all,
-                past_the_opening: all,
+                joins,
+                past_the_opening: joins,
                 longest,
                 rotated,
             };

@@ -106,7 +106,7 @@ pub fn ring_modes(histogram: &[u32], closeness: i32, list: &mut [u32]) -> ModesA
     ring_modes_and_traits(histogram, closeness, list).0
 }
 
-/// The same, with the ring's traits: those of no ring, if the call is turned down.
+/// The same, with the ring's traits; without any, if the call is turned down.
 pub fn ring_modes_and_traits(
     histogram: &[u32],
     closeness: i32,
@@ -148,7 +148,7 @@ pub fn card(bytes: &[u8], closeness: i32, labels: &mut [u8]) -> CardAnswer {
     card_and_hue_traits(bytes, closeness, labels).0
 }
 
-/// The same, with the traits of the ring of hues: those of no ring, if the call is turned down before.
+/// The same, with the traits of the ring of hues; without any, if the call is turned down before the hues are divided.
 pub fn card_and_hue_traits(
     bytes: &[u8],
     closeness: i32,

@@ -77,7 +77,7 @@ pub fn modes(counts: &[u64], closeness: i32) -> Vec<Mode> {
     finished(counts, closeness).modes
 }
 
-/// How often modes of the opened line were joined round the ring.
+/// The traits of a ring.
 pub fn traits(counts: &[u64], closeness: i32) -> RingTraits {
     finished(counts, closeness).traits
 }

@@ -170,8 +170,8 @@ fn a_card_comes_with_the_traits_of_its_hues() {
     let bytes = pixels.concat();
     for (closeness, number, joins) in [(0, 0, 1), (MOST_CLOSENESS + 1, 8, 0)] {
         let (mut labels, mut same_labels) = (vec![99; 112], vec![99; 112]);
-        let (answer, round) = card_and_hue_traits(&bytes, closeness, &mut labels);
-        assert_eq!((answer.number, round.joins), (number, joins));
+        let (answer, traits) = card_and_hue_traits(&bytes, closeness, &mut labels);
+        assert_eq!((answer.number, traits.joins), (number, joins));
         assert_eq!(card(&bytes, closeness, &mut same_labels), answer);
         assert_eq!(labels, same_labels);
     }

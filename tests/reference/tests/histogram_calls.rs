@@ -174,8 +174,8 @@ fn a_ring_comes_with_its_traits() {
     for (closeness, number, joins) in [(-1, 0, 3), (MOST_CLOSENESS + 1, 8, 0)] {
         let histogram = [4, 0, 4, 0, 9, 0, 4, 0, 0, 0];
         let (mut list, mut same_list) = ([99; 10], [99; 10]);
-        let (answer, round) = ring_modes_and_traits(&histogram, closeness, &mut list);
-        assert_eq!((answer.number, round.joins), (number, joins));
+        let (answer, traits) = ring_modes_and_traits(&histogram, closeness, &mut list);
+        assert_eq!((answer.number, traits.joins), (number, joins));
         assert_eq!(ring_modes(&histogram, closeness, &mut same_list), answer);
         assert_eq!(list, same_list);
     }

@@ -11,8 +11,8 @@ use Rattle.lists.proofs.Firsts.{first-within}
 use Rattle.verdict.specs.Settings.{closenessOf}
 use Rattle.segmentation.specs.Ring.{opening}
 use Rattle.segmentation.proofs.RingPlaces.{opening-in}
-use Rattle.segmentation.proofs.RingModes.{ring-starts-listed}
-use Rattle.segmentation.proofs.Listed.{ring-modes-most}
+use Rattle.segmentation.proofs.RingModes.{ring-starts-taken}
+use Rattle.segmentation.proofs.HeldStarts.{ring-modes-most}
 use Rattle.listing.specs.Numbers.{pastLast, binsFrom}
 use Rattle.listing.proofs.Listed.{startPlaces, ringOf, listed, listed-count}
 use Rattle.listing.proofs.ring_separators.Statement.{statement}
@@ -38,7 +38,7 @@ few c = let s = entry c in omega (arith, c .ring-modes .ensures .1, ring-modes-m
 -- the first places hold where the modes start
 starts : (c : tie.After-ring-modes)
     → take (c .ring-modes .result .modes) (c .ring-modes .last .1 .1 .0) ≡ startPlaces (closenessOf (entry c .args .setting)) (entry c .args .h .now)
-starts c = let m = c .ring-modes in ring-starts-listed (closenessOf (entry c .args .setting)) (entry c .args .h .now) _ _ (m .result .modes) (m .ensures .1) (m .ensures .2)
+starts c = let m = c .ring-modes in ring-starts-taken (closenessOf (entry c .args .setting)) (entry c .args .h .now) _ _ (m .result .modes) (m .ensures .1) (m .ensures .2)
 
 room : (c : tie.After-ring-modes) → c .ring-modes .result .modes ≤ length (c .ring-modes .last .1 .1 .0)
 room c = omega (arith, few c, entry c .pre .0, c .ring-modes .kept)

@@ -10,7 +10,7 @@ use Rattle.lists.proofs.Buffers.{over-front}
 use Rattle.verdict.specs.Settings.{closenessOf}
 use Rattle.segmentation.specs.Ring.{twoTurns}
 use Rattle.segmentation.proofs.TwoTurns.{turns-length}
-use Rattle.segmentation.proofs.Listed.{ring-held-count, ring-held-starts, ring-modes-most}
+use Rattle.segmentation.proofs.HeldStarts.{ring-held-count, ring-held-starts, ring-modes-most}
 use Rattle.rings.proofs.ring_modes.Statement.{statement}
 use Rattle.rings.proofs.ring_modes.Tie as tie
 

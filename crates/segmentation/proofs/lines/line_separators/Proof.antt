@@ -6,7 +6,7 @@ use native.Mathlib.Omega.{arith}
 use lib.ListN.{length}
 use Rattle.lists.specs.Lists.{over}
 use Rattle.verdict.specs.Settings.{closenessOf}
-use Rattle.segmentation.proofs.Listed.{listed-count, line-listed, line-listed-length}
+use Rattle.segmentation.proofs.HeldStarts.{held-below, line-listed, line-listed-length}
 use borrow.Author.Needs.{needs}
 use Rattle.segmentation.proofs.lines.line_separators.Statement.{statement}
 use Rattle.segmentation.proofs.lines.line_separators.Tie as tie
@@ -27,7 +27,7 @@ slice-aggregate-copy-first c = search needs
 fewer : (c : tie.After-line) → c .line .result < length (c .before .before .before .before .before .args .h .now)
 fewer c =
     let s = c .before .before .before .before .before in
-    listed-count (closenessOf (s .args .setting)) (s .args .h .now) _ _ (c .line .result) (s .pre .1 .0) (c .line .ensures)
+    held-below (closenessOf (s .args .setting)) (s .args .h .now) _ _ (c .line .result) (s .pre .1 .0) (c .line .ensures)
 
 add-copy-first : tie.Need-add-copy-first
 add-copy-first c = let l = c .before .before .before in omega (arith, fewer l, l .before .before .before .before .before .pre .0)

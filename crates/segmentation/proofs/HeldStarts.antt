@@ -1,4 +1,4 @@
--- The held separators are those that a line call and a ring call list. Assumes nothing.
+-- The held separators are those that a line call lists, and the places where a ring's modes start. Assumes nothing.
 use Prim.Native.Nat.{ℕ, zero, suc, _+_, _-_, _≤_, _<_}
 use mathlib.Core.Path.{_≡_, refl, sym, ap, ap₂, subst, _∙_}
 use mathlib.Core.List.{List, [], _∷_, _++_, map}
@@ -12,6 +12,7 @@ use Rattle.segmentation.specs.Joining.{lineModes, lineSeparators}
 use Rattle.segmentation.specs.Held.{segmentsHeld}
 use Rattle.segmentation.specs.Finished.{Cut}
 use Rattle.segmentation.specs.Ring.{opened, ringModes}
+use Rattle.segmentation.proofs.ModeStarts.{startsOf}
 use Rattle.segmentation.proofs.Holding.{held-length, held-at}
 use Rattle.segmentation.proofs.Finishing.{modes-cut, separators-length}
 use Rattle.segmentation.proofs.Applied.{cut-count}
@@ -19,7 +20,7 @@ use Rattle.segmentation.proofs.RingPlaces.{ring-length}
 use Rattle.segmentation.proofs.RingModes.{ring-fewer}
 
 -- where n held segments start, from number i on
-held-starts : (s p : List ℕ) (i n : ℕ) → i + n ≤ length s → map (λ (x : Segment). x .start) (segmentsHeld s p i n) ≡ take n (drop i s)
+held-starts : (s p : List ℕ) (i n : ℕ) → i + n ≤ length s → startsOf (segmentsHeld s p i n) ≡ take n (drop i s)
 unfolding segmentsHeld
 held-starts s p i zero h = refl
 held-starts s p i (suc n) h =
@@ -30,8 +31,8 @@ module _ (e : Closeness) (h s p : List ℕ) (n : ℕ) (two : 2 ≤ length h) (he
   cut : Cut (length h) (segmentsHeld s p 0 n)
   cut = subst (Cut (length h)) (sym held) (modes-cut e h two)
 
-  pub listed-count : n < length h
-  listed-count = omega (arith, cut-count cut, held-length s p 0 n)
+  pub held-below : n < length h
+  held-below = omega (arith, cut-count cut, held-length s p 0 n)
 
   some : 0 < n
   some = omega (arith, cut .nonEmpty, held-length s p 0 n)
@@ -51,7 +52,7 @@ module _ (e : Closeness) (h s p : List ℕ) (n : ℕ) (two : 2 ≤ length h) (he
   unfolding lineSeparators
   line-listed l =
       ap (λ (x : ℕ). take x s) (add-one n) ∙ take-suc s n 0 l
-      ∙ ap₂ (λ (xs : List ℕ) (y : ℕ). xs ++ (y ∷ [])) (sym (held-starts s p 0 n (omega arith)) ∙ ap (map (λ (x : Segment). x .start)) held) last
+      ∙ ap₂ (λ (xs : List ℕ) (y : ℕ). xs ++ (y ∷ [])) (sym (held-starts s p 0 n (omega arith)) ∙ ap startsOf held) last
 
   pub line-listed-length : n + 1 ≡ length (lineSeparators e h)
   line-listed-length = omega (arith, separators-length e h, ap length held, held-length s p 0 n)
@@ -61,8 +62,8 @@ module _ (e : Closeness) (h s p : List ℕ) (n : ℕ) (two : 2 ≤ length h) (he
   pub ring-held-count : n ≡ length (ringModes e h)
   ring-held-count = sym (held-length s p 0 n) ∙ ap length held
 
-  pub ring-held-starts : n ≤ length s → take n s ≡ map (λ (x : Segment). x .start) (ringModes e h)
-  ring-held-starts l = sym (held-starts s p 0 n (omega arith)) ∙ ap (map (λ (x : Segment). x .start)) held
+  pub ring-held-starts : n ≤ length s → take n s ≡ startsOf (ringModes e h)
+  ring-held-starts l = sym (held-starts s p 0 n (omega arith)) ∙ ap startsOf held
 
 -- a ring has no more modes than bins
 pub ring-modes-most : (e : Closeness) (h : List ℕ) → 2 ≤ length h → length (ringModes e h) ≤ length h
