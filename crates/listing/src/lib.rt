@@ -33,7 +33,7 @@ fn first_past_last(places: &[u32], ring: Ring) -> usize
     i
 }
 
-// Which of n modes is listed at number i, where mode `from` is listed first; after the last mode comes the first. The order of the list is settled here and nowhere else.
+// Which of n modes is listed at number i: the list goes from mode `from` on, and after the last mode on with the first.
 fn listed_mode(i: usize, from: usize, n: usize) -> usize
     requires { ⌜ (i < n) × (from ≤ n) × (n ≤ mostRingBins) ⌝ }
     ensures { λ r. ⌜ r ≡ (from + i) % n ⌝ }
