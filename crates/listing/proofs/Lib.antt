@@ -2,3 +2,6 @@ mod Rotated
 mod Listed
 mod ReadOff
 pub mod Always
+pub mod TurnedBins
+pub mod Turning
+pub mod TwoLowest

@@ -5,7 +5,7 @@ use mathlib.Core.Bool.{true}
 use mathlib.Core.Logic.{⊎-elim}
 use mathlib.Core.List.{List}
 use native.Mathlib.Omega.{arith}
-use native.Mathlib.Nat.{mod-lt, mod-add-mod, add-mod-right}
+use native.Mathlib.Nat.{mod-add-mod}
 use lib.ListN.{length, length-map}
 use Rattle.lists.proofs.Cases.{by-order}
 use Rattle.lists.proofs.Connectives.{either-true}
@@ -16,7 +16,7 @@ use Rattle.verdict.specs.Test.{Closeness}
 use Rattle.segmentation.specs.Segments.{Segment, segmentAt, binAt}
 use Rattle.segmentation.specs.Ring.{opening, ringBin, linePlace, ringModes, ringStarts, inArc, inRound, inRingMode}
 use Rattle.segmentation.proofs.Kept.{chain-starts, chain-ends}
-use Rattle.segmentation.proofs.RingPlaces.{place-bin}
+use Rattle.segmentation.proofs.RingPlaces.{ring-in, ring-later, place-bin}
 use Rattle.segmentation.proofs.RoundOne.{arc-ends}
 use Rattle.segmentation.proofs.RingModes.{ring-cut, ring-one-mode}
 use Rattle.listing.specs.Listing.{ringSeparators, InModeFrom}
@@ -45,16 +45,6 @@ module _ (e : Closeness) (h : List ℕ) (two : 2 ≤ length h) where
   list = ringSeparators e h
 
   -- ---- the bins at places of the first turn and of the second
-  bin-in : (i : ℕ) → ringBin h i < length h
-  unfolding ringBin
-  bin-in i = mod-lt (opening h + i) {m = length h} (omega arith)
-
-  bin-later : (i : ℕ) → ringBin h (i + length h) ≡ ringBin h i
-  unfolding ringBin
-  bin-later i =
-      let z : opening h + (i + length h) ≡ opening h + i + length h = omega arith in
-      ap (λ (j : ℕ). j % length h) z ∙ add-mod-right (opening h + i) (length h)
-
   bin-up : (i d : ℕ) → (ringBin h i + d) % length h ≡ ringBin h (i + d)
   unfolding ringBin
   bin-up i d =
@@ -62,11 +52,11 @@ module _ (e : Closeness) (h : List ℕ) (two : 2 ≤ length h) where
       mod-add-mod (opening h + i) (length h) d ∙ ap (λ (j : ℕ). j % length h) z
 
   -- ---- where the modes start
-  starts-count : length starts ≡ length (ringModes e h)
+  pub starts-count : length starts ≡ length (ringModes e h)
   unfolding ringStarts
   starts-count = length-map (ringModes e h) (λ (s : Segment). ringBin h (s .start))
 
-  start-bin : (m : ℕ) → m < length (ringModes e h) → binAt starts m ≡ ringBin h (mode m .start)
+  pub start-bin : (m : ℕ) → m < length (ringModes e h) → binAt starts m ≡ ringBin h (mode m .start)
   unfolding ringStarts
   start-bin m l = map-at (λ (s : Segment). ringBin h (s .start)) (ringModes e h) m (record { start = 0; peak = 0; end = 0 }) 0 l
 
@@ -88,7 +78,7 @@ module _ (e : Closeness) (h : List ℕ) (two : 2 ≤ length h) where
         (λ a.
         let past : r < s = omega (arith, c .chain .adjacent m (omega arith), chain-starts ss (c .chain) (suc m) j a l) in
         let z : s + (r + length h - s) ≡ r + length h = omega arith in
-        (r + length h - s, omega arith, omega arith, ap (ringBin h) z ∙ bin-later r))
+        (r + length h - s, omega arith, omega arith, ap (ringBin h) z ∙ ring-later h (omega arith) r))
         (λ a.
         let up = chain-starts ss (c .chain) j m a k in
         let once = chain-ends ss (c .chain) m (length ss - 1) (omega arith) (omega arith) in
@@ -102,9 +92,9 @@ module _ (e : Closeness) (h : List ℕ) (two : 2 ≤ length h) where
         let less : r - mode m .start ≤ d = f .1 in
         let turn : d < length h = f .2 in
         let z : mode m .start + (r - mode m .start) ≡ r = omega (arith, arc-ends (mode m) r arc .0) in
-        let within = bin-in (mode m .start) in
+        let within = ring-in h (omega arith) (mode m .start) in
         let here = mod-up (length h) _ (r - mode m .start) (ringBin h r) within (omega arith) (bin-up (mode m .start) (r - mode m .start) ∙ ap (ringBin h) z) in
-        let there = mod-up (length h) _ d (ringBin h r) (bin-in (mode j .start)) turn (bin-up (mode j .start) d ∙ f .3) in
+        let there = mod-up (length h) _ d (ringBin h r) (ring-in h (omega arith) (mode j .start)) turn (bin-up (mode j .start) d ∙ f .3) in
         record {
           upTo = λ low.
               by-order (ringBin h r) (ringBin h (mode m .start))
@@ -120,7 +110,7 @@ module _ (e : Closeness) (h : List ℕ) (two : 2 ≤ length h) where
     lies-at l =
         let p = linePlace h b in
         let q = place-bin h (omega arith) b l in
-        ⊎-elim (λ a. (p, a, q)) (λ a. (p + length h, a, bin-later p ∙ q)) (either-true (inArc (mode m) p) (inArc (mode m) (p + length h)) t)
+        ⊎-elim (λ a. (p, a, q)) (λ a. (p + length h, a, ring-later h (omega arith) p ∙ q)) (either-true (inArc (mode m) p) (inArc (mode m) (p + length h)) t)
 
     none-nearer : (i : ℕ) → i < length list → b < length h → NoNearer b (binAt starts m) (binAt list i)
     none-nearer i l below =
@@ -152,6 +142,6 @@ module _ (e : Closeness) (h : List ℕ) (two : 2 ≤ length h) where
       let inside : j < length list = s .1 in
       let last = length list - 1 in
       let above : b < binAt starts m = omega (arith, s .2, up 0 j (omega arith) inside) in
-      let below : b < length h = omega (arith, start-bin m k, bin-in (mode m .start)) in
+      let below : b < length h = omega (arith, start-bin m k, ring-in h (omega arith) (mode m .start)) in
       let past : b < binAt list last = omega (arith, up 0 last (omega arith) (omega arith)) in
       omega (arith, s .2, up j last (omega arith) (omega arith), none-nearer b m k t last (omega arith) below .past above past))

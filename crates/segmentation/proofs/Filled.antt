@@ -5,7 +5,6 @@ use mathlib.Core.Bool.{Bool, true, false, cond}
 use mathlib.Core.List.{List}
 use mathlib.Core.Option.{some}
 use native.Mathlib.Omega.{arith}
-use native.Mathlib.Nat.{mod-lt, add-mod-right}
 use lib.Dec.{eqb}
 use lib.ListN.{length, take, drop}
 use borrow.Author.Tests.{eqb-true}
@@ -23,7 +22,7 @@ use Rattle.segmentation.specs.Runs.{OnRing}
 use Rattle.segmentation.proofs.Kept.{chain-ends}
 use Rattle.segmentation.proofs.OneMode.{in-mode, in-last-mode, mode-from, mode-before}
 use Rattle.segmentation.proofs.Finishing.{modes-cut, modes-counts}
-use Rattle.segmentation.proofs.RingPlaces.{opening-in, opening-lowest, ring-length, ring-bins, ring-total, bin-place}
+use Rattle.segmentation.proofs.RingPlaces.{opening-in, opening-lowest, ring-length, ring-bins, ring-total, ring-in, ring-later, bin-place}
 use Rattle.segmentation.proofs.RoundKept.{round-run, round-arcs}
 use Rattle.segmentation.proofs.RoundOne.{in-arc, left-or, right-or}
 use Rattle.segmentation.proofs.RingModes.{kept-round, ring-cut}
@@ -68,10 +67,6 @@ module _ (e : Closeness) (h : List ℕ) (two : 2 ≤ length h) (filled : 0 < tot
   one : 1 ≤ length h
   one = omega arith
 
-  ring-in : (i : ℕ) → ringBin h i < length h
-  unfolding ringBin
-  ring-in i = mod-lt (opening h + i) one
-
   wraps : (j : ℕ) → j ≡ length h → ringBin h j ≡ opening h
   unfolding ringBin
   wraps j q = let o = opening-in h one in mod-above (opening h + j) (length h) (omega arith) (omega arith) ∙ omega arith
@@ -91,7 +86,7 @@ module _ (e : Closeness) (h : List ℕ) (two : 2 ≤ length h) (filled : 0 < tot
       by-order j (length h)
       (λ u. (j, from, before m j l (r .2) u, omega (arith, ring-bins h one j (omega arith))))
       (λ u.
-      (s, omega arith, cut .chain .ascending m l, omega (arith, ring-bins h one j (omega arith), ap (binAt h) (wraps j (omega arith)), opening-lowest h (ringBin h s) (ring-in s))))
+      (s, omega arith, cut .chain .ascending m l, omega (arith, ring-bins h one j (omega arith), ap (binAt h) (wraps j (omega arith)), opening-lowest h (ringBin h s) (ring-in h one s))))
     where
       before : (m j : ℕ) → m < length (lineModes e (opened h)) → inMode (lineModes e (opened h)) m j ≡ true → j < length h → j < segmentAt (lineModes e (opened h)) m .end
       before m j l t u =
@@ -115,10 +110,7 @@ module _ (e : Closeness) (h : List ℕ) (two : 2 ≤ length h) (filled : 0 < tot
 
   -- a place of the second turn has its bin in the first
   second : (p : ℕ) → length h ≤ p → ringBin h p ≡ ringBin h (p - length h)
-  unfolding ringBin
-  second p l =
-      let z : opening h + p ≡ opening h + (p - length h) + length h = omega arith in
-      ap (λ (i : ℕ). i % length h) z ∙ add-mod-right (opening h + (p - length h)) (length h)
+  second p l = let z : p ≡ p - length h + length h = omega arith in ap (ringBin h) z ∙ ring-later h one (p - length h)
 
   pub ring-bin : (m : ℕ) → m < length (ringModes e h) → (b : ℕ) × (b < length h) × (inRingMode e h m b ≡ true) × (0 < binAt h b)
   unfolding inRingMode inRound
@@ -132,7 +124,7 @@ module _ (e : Closeness) (h : List ℕ) (two : 2 ≤ length h) (filled : 0 < tot
       let end = chain-ends ss (cut .chain) m (length ss - 1) (omega arith) (omega arith) in
       let most : p < length h + length h = omega (arith, r .2, end, cut .onceRound, cut .firstTurn 0 (cut .nonEmpty)) in (
         ringBin h p,
-        ring-in p,
+        ring-in h one p,
         by-order p (length h)
             (λ u. rw (bin-place h one p u) (left-or (inArc s p) (inArc s (p + length h)) here))
             (λ u.

@@ -5,7 +5,6 @@ use mathlib.Core.Bool.{true, false}
 use mathlib.Core.List.{List, _++_}
 use mathlib.Core.Option.{some}
 use native.Mathlib.Omega.{arith}
-use native.Mathlib.Nat.{mod-lt}
 use lib.Dec.{ltb}
 use lib.ListN.{length, take}
 use lib.IntN.{pos}
@@ -33,7 +32,7 @@ use Rattle.segmentation.proofs.Settled.{unjoinable, line-settled, one-j
 use Rattle.segmentation.proofs.ModeStarts.{startsOf, starts-length}
 use Rattle.segmentation.proofs.FirstCut.{separatorAt, first-segment, first-neighbours}
 use Rattle.segmentation.proofs.Finishing.{part-length, kept, modes-cut, modes-humps}
-use Rattle.segmentation.proofs.RingPlaces.{opening-in, opening-lowest, opening-first, ring-length, ring-bins, place-in, place-bin}
+use Rattle.segmentation.proofs.RingPlaces.{opening-in, opening-lowest, opening-first, ring-length, ring-bins, ring-in, place-in, place-bin}
 use Rattle.segmentation.proofs.TwoTurns.{opening-length, opening-total, opening-bins, turns-length, turns-bins, opened-part, part-later, part-once, part-turn}
 use Rattle.segmentation.proofs.RoundKept.{RoundRun, round-of, round-run, round-below, ring-shortens, on-ring-kept, round-humps}
 use Rattle.segmentation.proofs.RoundOne.{round-one}
@@ -58,10 +57,6 @@ module _ (h : List ℕ) (two : 2 ≤ length h) where
   opened-bin : (s : ℕ) → s < length h → binAt (opened h) s ≡ binAt (fromOpening h) s
   opened-bin s l = ring-bins h one s (omega arith) ∙ sym (opening-bins h one s l)
 
-  ring-in : (i : ℕ) → ringBin h i < length h
-  unfolding ringBin
-  ring-in i = mod-lt (opening h + i) one
-
   ring-zero : ringBin h 0 ≡ opening h
   unfolding ringBin
   ring-zero =
@@ -77,7 +72,7 @@ module _ (h : List ℕ) (two : 2 ≤ length h) where
         opening-bins h one 0 (omega arith),
         opening-bins h one 1 two,
         ap (binAt h) ring-zero,
-        opening-lowest h (ringBin h 1) (ring-in 1),
+        opening-lowest h (ringBin h 1) (ring-in h one 1),
       )
 
   valley-low : (s : ℕ) → s < length h → 0 < s → isValley (opened h) s ≡ true → Low (fromOpening h) s

@@ -4,7 +4,7 @@ use Prim.Native.Nat.{ℕ, suc, _+_, _*_, _-_, _%_, _≤_, _<_}
 use mathlib.Core.Path.{_≡_, ap, _∙_}
 use mathlib.Core.List.{List, [], _∷_}
 use native.Mathlib.Omega.{arith}
-use native.Mathlib.Nat.{mod-lt}
+use native.Mathlib.Nat.{mod-lt, add-mod-right}
 use lib.Dec.{leb→le}
 use lib.IntN.{pos}
 use lib.ListN.{length}
@@ -57,6 +57,17 @@ ring-small h n l t = record { bins = omega (arith, ring-length h (omega arith));
 
 -- ---- the ring's numbers and the line's: each way back
 module _ (h : List ℕ) (n : 1 ≤ length h) where
+  pub ring-in : (i : ℕ) → ringBin h i < length h
+  unfolding ringBin
+  ring-in i = mod-lt (opening h + i) n
+
+  -- a turn later
+  pub ring-later : (i : ℕ) → ringBin h (i + length h) ≡ ringBin h i
+  unfolding ringBin
+  ring-later i =
+      let z : opening h + (i + length h) ≡ opening h + i + length h = omega arith in
+      ap (λ (j : ℕ). j % length h) z ∙ add-mod-right (opening h + i) (length h)
+
   pub place-in : (b : ℕ) → linePlace h b < length h
   unfolding linePlace
   place-in b = mod-lt (b + length h - opening h) n

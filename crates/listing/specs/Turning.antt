@@ -1,0 +1,78 @@
+-- Rule R9: turning a ring. If its lowest count occurs in a single bin, the separators turn along and each mode keeps its bins. Assumes nothing.
+--   turned, turnedBin               the ring turned by k bins; the number that bin b has then
+--   SingleLowest                    the lowest count occurs in a single bin
+--   SeparatorsTurn, ContentsKept    the set of separators turns along; each mode keeps its contents
+--   TurnsAlong                      these two, and what else a turn leaves as it was
+--   TurningKeeps, TwoLowest         it holds with a single lowest bin, and need not hold with two
+use Prim.Native.Nat.{ℕ, _+_, _-_, _%_, _≤_, _<_}
+use mathlib.Core.Path.{_≡_}
+use mathlib.Core.List.{List, [], _∷_, _++_, map}
+use lib.IntN.{pos}
+use lib.ListN.{length, take, drop}
+use Rattle.lists.specs.Lists.{total, contains}
+use Rattle.verdict.specs.Test.{Closeness}
+use Rattle.segmentation.specs.Segments.{binAt}
+use Rattle.segmentation.specs.Ring.{ringModes, ringStarts, inRingMode}
+use Rattle.listing.specs.Listing.{ringSeparators}
+
+-- R9: the ring turned by k bins: as many bins as k is past whole turns move from its end to its beginning. The remainder is no more than the length, so the
+-- difference is never negative
+unfoldable pub turned : ℕ → List ℕ → List ℕ
+turned k h = let stay = length h - k % length h in drop stay h ++ take stay h
+
+-- R9: bin b comes to be bin b + k, round the ring
+abbrev pub turnedBin : ℕ → List ℕ → ℕ → ℕ
+turnedBin k h b = (b + k) % length h
+
+-- what turning is, whatever the bins hold
+pub record Turned (k : ℕ) (h : List ℕ) : Type 0 where
+  pub sameLength : length (turned k h) ≡ length h
+  pub sameTotal : total (turned k h) ≡ total h
+  pub moved : (b : ℕ) → b < length h → binAt (turned k h) (turnedBin k h b) ≡ binAt h b
+
+-- proved in proofs/Turning
+abbrev pub AlwaysTurned : Type 0
+AlwaysTurned = (k : ℕ) (h : List ℕ) → Turned k h
+
+-- R9: one bin is lower than every other
+pub record SingleLowest (h : List ℕ) : Type 0 where
+  pub bin : ℕ
+  pub inRing : bin < length h
+  pub lowest : (b : ℕ) → b < length h → ¬ (b ≡ bin) → binAt h bin < binAt h b
+
+-- R9: a bin is a separator before the turn if and only if it is one after
+abbrev pub SeparatorsTurn : Closeness → ℕ → List ℕ → Type 0
+SeparatorsTurn e k h = (b : ℕ) → b < length h → contains (ringSeparators e (turned k h)) (turnedBin k h b) ≡ contains (ringSeparators e h) b
+
+-- R9: mode n of the turned ring has the bins of mode m of the ring, and no others
+abbrev pub SameContents : Closeness → ℕ → List ℕ → (m n : ℕ) → Type 0
+SameContents e k h m n = (b : ℕ) → b < length h → inRingMode e (turned k h) n (turnedBin k h b) ≡ inRingMode e h m b
+
+-- R9: each mode keeps its contents, whatever its number is after the turn
+abbrev pub ContentsKept : Closeness → ℕ → List ℕ → Type 0
+ContentsKept e k h = (m : ℕ) → m < length (ringModes e h) → (n : ℕ) × (n < length (ringModes e (turned k h))) × SameContents e k h m n
+
+pub record TurnsAlong (e : Closeness) (k : ℕ) (h : List ℕ) : Type 0 where
+  pub separators : SeparatorsTurn e k h
+  pub asMany : length (ringSeparators e (turned k h)) ≡ length (ringSeparators e h)
+  pub contents : ContentsKept e k h
+  -- each mode keeps its number too: so the modes start, in their order, where the turn takes the bins at which they started
+  pub sameModes : length (ringModes e (turned k h)) ≡ length (ringModes e h)
+  pub numbers : (m : ℕ) → SameContents e k h m m
+  pub starts : ringStarts e (turned k h) ≡ map (turnedBin k h) (ringStarts e h)
+
+-- proved in proofs/Turning
+abbrev pub TurningKeeps : Type 0
+TurningKeeps = (e : Closeness) (k : ℕ) (h : List ℕ) → 2 ≤ length h → SingleLowest h → TurnsAlong e k h
+
+-- a ring with two lowest bins, which is opened at another of them when it is turned by 2
+abbrev pub twoLowest : List ℕ
+twoLowest = 1 ∷ 9 ∷ 0 ∷ 0 ∷ 9 ∷ []
+
+-- its separators do not turn along, and one of its modes does not keep its contents: bins 2 and 4 share a mode, and bins 4 and 1 of the turned ring do not. Proved
+-- in proofs/TwoLowest
+pub record TwoLowest : Type 0 where
+  pub before : ringSeparators (pos 0) twoLowest ≡ 0 ∷ 2 ∷ []
+  pub after : ringSeparators (pos 0) (turned 2 twoLowest) ≡ 0 ∷ 2 ∷ []
+  pub separators : ¬ SeparatorsTurn (pos 0) 2 twoLowest
+  pub contents : ¬ ContentsKept (pos 0) 2 twoLowest
