@@ -1,4 +1,5 @@
 mod FitAnswers
 mod Modes
+pub mod Turns
 pub mod Cards
 pub mod Texts

@@ -1,4 +1,4 @@
--- What holds besides the equations: for a served call (D2 and D3), for a card made twice, and for the program's text. Assumes nothing.
+-- What holds besides the equations: for a served call (D2 and D3), for a card made twice, for a turned ring, and for the program's text. Assumes nothing.
 use Prim.Native.Nat.{ℕ, suc, _≤_, _<_}
 use mathlib.Core.Path.{_≡_}
 use mathlib.Core.Bool.{cond}
@@ -6,10 +6,11 @@ use mathlib.Core.List.{List, map}
 use lib.Dec.{ltb, eqb}
 use lib.IntN.{pos}
 use lib.ListN.{length, take, getD}
-use Rattle.lists.specs.Lists.{total, countIf, ExactlyOne}
+use Rattle.lists.specs.Lists.{total, countIf, contains, ExactlyOne}
 use Rattle.verdict.specs.Test.{Closeness}
 use Rattle.pixel.specs.declared.Pixel.{Pixel}
 use Rattle.palette.specs.declared.Entry.{Entry}
+use Rattle.listing.specs.Turning.{turned, turnedBin, SingleLowest, TurnsAlong}
 use Rattle.palette.specs.Levels.{greyLevels, colourLevels}
 use Rattle.palette.specs.Cards.{allGreys, allColours, members, entries, mostEntries, pixelsOf}
 use Rattle.palette.specs.Sound.{pixelAt, entryAt, countsUnder, AllSound}
@@ -17,8 +18,8 @@ use Rattle.swatch.specs.Reading.{longestSwatch}
 use Rattle.swatch.specs.Output.{printedCard, printedMost}
 use Rattle.swatch.specs.Written.{writtenSwatch, MakesSwatch}
 use Rattle.kistrovu.specs.declared.Card.{Card}
-use Rattle.grounds.specs.Grounds.{cardNumber, programCloseness, textNumber}
-use Rattle.kistrovu.specs.Answers.{cardAnswer, labelList, printed, printedAnswer}
+use Rattle.grounds.specs.Grounds.{modesNumber, cardNumber, programCloseness, textNumber}
+use Rattle.kistrovu.specs.Answers.{ringAnswer, ringList, cardAnswer, labelList, printed, printedAnswer}
 
 -- D2 and D3: P holds if the call is served, that is, if its number n is 0
 abbrev pub IfServed : ℕ → Type 0 → Type 0
@@ -48,6 +49,22 @@ abbrev pub CardAgain : Type 0
 CardAgain = (e : Closeness) (bytes before before′ : List ℕ) → length before ≡ length before′
     → (cardAnswer e bytes (length before) ≡ cardAnswer e bytes (length before′))
     × IfServed (cardNumber e bytes (length before)) (labelList e bytes before ≡ labelList e bytes before′)
+
+-- the separators that a ring call lists: as many of the first places of the list as its answer says
+abbrev pub listedSeparators : Closeness → List ℕ → List ℕ → List ℕ
+listedSeparators e h list = take (ringAnswer e h (length list) .separators) (ringList e h list)
+
+-- R9: two ring calls, on a ring and on the ring turned by k bins
+pub record RingTurned (e : Closeness) (k : ℕ) (h list list′ : List ℕ) : Type 0 where
+  -- both are served, or both turned down with the same number; there are as many separators, and those that are listed turn along
+  pub answer : ringAnswer e (turned k h) (length list′) ≡ ringAnswer e h (length list)
+  pub listed : (b : ℕ) → b < length h → contains (listedSeparators e (turned k h) list′) (turnedBin k h b) ≡ contains (listedSeparators e h list) b
+  -- and each mode keeps its contents
+  pub modes : IfServed (modesNumber e h (length list)) (TurnsAlong e k h)
+
+-- whatever was in the lists before, if they have as many places. Proved in proofs/Turns
+abbrev pub RingTurns : Type 0
+RingTurns = (e : Closeness) (k : ℕ) (h list list′ : List ℕ) → SingleLowest h → length list′ ≡ length list → RingTurned e k h list list′
 
 -- X8: a text longer than any swatch gets the same answer as its first bytes, up to the one that makes it too long. Proved in proofs/Texts
 abbrev pub LongText : Type 0
