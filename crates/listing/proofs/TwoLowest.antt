@@ -51,4 +51,5 @@ not-kept kept = let k = kept 0 (omega (arith, computed .two)) in go (k .0) (k .1
     go (suc (suc n)) l same = absurd (omega (arith, computed .twoAfter))
 
 pub two-lowest : TwoLowest
-two-lowest = record { before = computed .before; after = computed .after; separators = not-turned; contents = not-kept }
+unfolding turned
+two-lowest = record { turnedBins = refl; before = computed .before; after = computed .after; separators = not-turned; contents = not-kept }

@@ -65,13 +65,14 @@ pub record TurnsAlong (e : Closeness) (k : ℕ) (h : List ℕ) : Type 0 where
 abbrev pub TurningKeeps : Type 0
 TurningKeeps = (e : Closeness) (k : ℕ) (h : List ℕ) → 2 ≤ length h → SingleLowest h → TurnsAlong e k h
 
--- a ring with two lowest bins, which is opened at another of them when it is turned by 2
+-- a ring with two lowest bins, of which the turn by 2 makes the other one the first
 abbrev pub twoLowest : List ℕ
 twoLowest = 1 ∷ 9 ∷ 0 ∷ 0 ∷ 9 ∷ []
 
--- its separators do not turn along, and one of its modes does not keep its contents: bins 2 and 4 share a mode, and bins 4 and 1 of the turned ring do not. Proved
--- in proofs/TwoLowest
+-- its separators do not turn along: 2 and 4 would be due. Nor does each mode keep its contents: bins 2 and 4 share one, and turned, as bins 4 and 1, they do not.
+-- Proved in proofs/TwoLowest
 pub record TwoLowest : Type 0 where
+  pub turnedBins : turned 2 twoLowest ≡ 0 ∷ 9 ∷ 1 ∷ 9 ∷ 0 ∷ []
   pub before : ringSeparators (pos 0) twoLowest ≡ 0 ∷ 2 ∷ []
   pub after : ringSeparators (pos 0) (turned 2 twoLowest) ≡ 0 ∷ 2 ∷ []
   pub separators : ¬ SeparatorsTurn (pos 0) 2 twoLowest
