@@ -1,9 +1,8 @@
 -- A ring call on a turned ring: the same answer, and the separators turned along. Assumes nothing.
-use Prim.Native.Nat.{ℕ, _≤_, _<_}
+use Prim.Native.Nat.{ℕ, _<_}
 use mathlib.Core.Path.{_≡_, refl, sym, ap, _∙_}
 use mathlib.Core.Bool.{Bool, true, false, cond}
 use mathlib.Core.List.{List, []}
-use native.Mathlib.Omega.{arith}
 use borrow.Author.Tests.{eqb-true}
 use lib.Dec.{eqb}
 use lib.ListN.{length, take}
@@ -14,8 +13,7 @@ use Rattle.listing.specs.Listing.{ringSeparators}
 use Rattle.listing.specs.Turning.{turned, turnedBin, SingleLowest, TurnsAlong}
 use Rattle.listing.proofs.TurnedBins.{always-turned}
 use Rattle.listing.proofs.Turning.{turning-keeps}
-use Rattle.grounds.specs.Grounds.{firstGround, modesNumber}
-use Rattle.kistrovu.specs.declared.ModesAnswer.{ModesAnswer}
+use Rattle.grounds.specs.Grounds.{modesNumber}
 use Rattle.kistrovu.specs.Answers.{served, modesAnswer, modesList, ringAnswer, ringList}
 use Rattle.kistrovu.specs.Facts.{listedSeparators, RingTurns}
 use Rattle.kistrovu.proofs.Modes.{modes-accepted}

@@ -4,7 +4,7 @@ use mathlib.Core.Path.{_≡_, refl, sym, ap, ap₂, _∙_}
 use mathlib.Core.List.{List, _++_, map, map-map}
 use native.Mathlib.Omega.{arith}
 use native.Mathlib.Nat.{mod-lt, mod-add-mod}
-use lib.ListN.{length, take, getD, length-map}
+use lib.ListN.{length, take, getD}
 use lib.Seq.{ext-getD}
 use Rattle.lists.specs.Lists.{contains}
 use Rattle.lists.proofs.Cases.{by-order}
@@ -123,6 +123,6 @@ turning-keeps e k h two single = record {
   asMany = separator-count k h two single e;
   contents = λ m l. (m, omega (arith, mode-count k h two single e), contents-kept k h two single e m);
   sameModes = mode-count k h two single e;
-  numbers = contents-kept k h two single e;
+  sameNumbers = contents-kept k h two single e;
   starts = starts-turn k h two single e;
 }

@@ -15,8 +15,7 @@ use Rattle.segmentation.specs.Segments.{binAt}
 use Rattle.segmentation.specs.Ring.{ringModes, ringStarts, inRingMode}
 use Rattle.listing.specs.Listing.{ringSeparators}
 
--- R9: the ring turned by k bins: as many bins as k is past whole turns move from its end to its beginning. The remainder is no more than the length, so the
--- difference is never negative
+-- R9: the ring turned by k bins: its last bins come first, as many as k is over whole turns. That is no more than the length, so the difference is never negative
 unfoldable pub turned : ℕ → List ℕ → List ℕ
 turned k h = let stay = length h - k % length h in drop stay h ++ take stay h
 
@@ -58,7 +57,7 @@ pub record TurnsAlong (e : Closeness) (k : ℕ) (h : List ℕ) : Type 0 where
   pub contents : ContentsKept e k h
   -- each mode keeps its number too: so the modes start, in their order, where the turn takes the bins at which they started
   pub sameModes : length (ringModes e (turned k h)) ≡ length (ringModes e h)
-  pub numbers : (m : ℕ) → SameContents e k h m m
+  pub sameNumbers : (m : ℕ) → SameContents e k h m m
   pub starts : ringStarts e (turned k h) ≡ map (turnedBin k h) (ringStarts e h)
 
 -- proved in proofs/Turning

@@ -3,7 +3,6 @@ use Prim.Native.Nat.{ℕ, suc, _+_, _-_, _%_, _≤_, _<_}
 use mathlib.Core.Path.{_≡_, sym, ap, ap₂, _∙_}
 use mathlib.Core.List.{List, [], _∷_, _++_}
 use native.Mathlib.Omega.{arith}
-use native.Mathlib.Nat.{add-mod-right}
 use lib.ListN.{length, take, drop, set, length-append, length-drop, List·getD-append}
 use lib.Seq.{length-take-le, getD-append-add, getD-take, getD-drop, take-append-le, drop-append-le, take-append-add, drop-append-add, take-add, take-suc, ext-getD}
 use Rattle.lists.specs.Lists.{total, part, over}
@@ -13,7 +12,7 @@ use Rattle.lists.proofs.Rotations.{turned-length, turned-at}
 use Rattle.lists.proofs.Buffers.{over-take}
 use Rattle.segmentation.specs.Segments.{binAt}
 use Rattle.segmentation.specs.Ring.{opening, opened, ringBin}
-use Rattle.segmentation.proofs.RingPlaces.{opening-in, ring-length, ring-bins}
+use Rattle.segmentation.proofs.RingPlaces.{opening-in, ring-length, ring-bins, ring-later}
 use Rattle.segmentation.specs.Ring.{fromOpening, twoTurns}
 
 -- ---- one turn
@@ -35,22 +34,22 @@ unfolding twoTurns
 turns-length h n = omega (arith, length-append (fromOpening h) (fromOpening h), opening-length h n)
 
 pub turns-bins : (h : List ℕ) → 1 ≤ length h → (i : ℕ) → i < length h + length h → binAt (twoTurns h) i ≡ binAt h (ringBin h i)
-unfolding twoTurns ringBin
+unfolding twoTurns
 turns-bins h n i l = by-order i (length h) before after
   where
     k : length (fromOpening h) ≡ length h
     k = opening-length h n
 
-    before : i < length h → binAt (fromOpening h ++ fromOpening h) i ≡ binAt h ((opening h + i) % length h)
+    before : i < length h → binAt (fromOpening h ++ fromOpening h) i ≡ binAt h (ringBin h i)
     before u = List·getD-append (fromOpening h) (fromOpening h) 0 i (omega (arith, k)) ∙ opening-bins h n i u
 
-    after : length h ≤ i → binAt (fromOpening h ++ fromOpening h) i ≡ binAt h ((opening h + i) % length h)
+    after : length h ≤ i → binAt (fromOpening h ++ fromOpening h) i ≡ binAt h (ringBin h i)
     after u =
         let j = i - length h in
         let e : i ≡ length (fromOpening h) + j = omega (arith, k) in
-        let f : opening h + j + length h ≡ opening h + i = omega arith in
+        let f : j + length h ≡ i = omega arith in
         ap (binAt (fromOpening h ++ fromOpening h)) e ∙ getD-append-add (fromOpening h) (fromOpening h) j 0 ∙ opening-bins h n j (omega arith)
-        ∙ ap (binAt h) (sym (add-mod-right (opening h + j) (length h)) ∙ ap (λ (m : ℕ). m % length h) f)
+        ∙ ap (binAt h) (sym (ring-later h n j) ∙ ap (ringBin h) f)
 
 -- the opened line is the beginning of the two turns
 pub opened-turns : (h : List ℕ) → 1 ≤ length h → opened h ≡ take (suc (length h)) (twoTurns h)
