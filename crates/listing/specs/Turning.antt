@@ -29,7 +29,7 @@ pub record Turned (k : ℕ) (h : List ℕ) : Type 0 where
   pub sameTotal : total (turned k h) ≡ total h
   pub moved : (b : ℕ) → b < length h → binAt (turned k h) (turnedBin k h b) ≡ binAt h b
 
--- proved in proofs/Turning
+-- proved in proofs/TurnedBins
 abbrev pub AlwaysTurned : Type 0
 AlwaysTurned = (k : ℕ) (h : List ℕ) → Turned k h
 
