@@ -153,7 +153,7 @@ fn divide(
 
 /// The mode that a bin lies in: back from the bin, on a ring past bin 0 too, to the first start that is met. A ring's
 /// modes number from its opening, so the bins from the opening up to the start of mode 0, if any, are the last mode's.
-fn mode_of(bin: usize, starts: &[usize], bins: usize) -> usize {
+pub fn mode_of(bin: usize, starts: &[usize], bins: usize) -> usize {
     (0..bins)
         .map(|back| (bin + bins - back) % bins)
         .find_map(|bin| starts.iter().position(|&start| start == bin))

@@ -3,8 +3,8 @@
 //! the rules, clear rather than fast, and deliberately by other means than the engine, so that a slip in one is unlikely
 //! to occur in the other as well.
 //!
-//! One module for each section of the rules, and `steps` for pooling that goes from bin to bin. To run its own tests:
-//! `cargo test -p reference` in `tests/`.
+//! One module for each section of the rules, `steps` for pooling that goes from bin to bin, and `turns` for what turning
+//! a ring does to it. To run its own tests: `cargo test -p reference` in `tests/`.
 
 pub mod calls;
 pub mod cards;
@@ -16,3 +16,4 @@ pub mod rings;
 pub mod steps;
 pub mod swatches;
 pub mod test;
+pub mod turns;
