@@ -3,8 +3,10 @@
 use crate::groups::Case;
 use crate::mode_groups::ModesCase;
 use crate::round_joins::RoundTally;
+use crate::turned_rings::TurnTally;
 use engine::IntoRaw;
 use reference::calls::{self, ModesAnswer};
+use reference::rings::Finished;
 use std::fmt::Debug;
 
 /// The calls that are compared in this run.
@@ -15,6 +17,7 @@ pub struct Calls {
     pub verdicts: bool,
     pub lines: bool,
     pub rings: bool,
+    pub turns: bool,
     pub cards: bool,
     pub texts: bool,
     pub stored: bool,
@@ -28,6 +31,7 @@ impl Calls {
             verdicts: compared,
             lines: compared,
             rings: compared,
+            turns: compared,
             cards: compared,
             texts: compared,
             stored: compared,
@@ -43,6 +47,7 @@ impl Calls {
             "verdicts" => &mut calls.verdicts,
             "lines" => &mut calls.lines,
             "rings" => &mut calls.rings,
+            "turns" => &mut calls.turns,
             "cards" => &mut calls.cards,
             "texts" => &mut calls.texts,
             "stored" => &mut calls.stored,
@@ -84,6 +89,8 @@ pub struct Tally {
     pub grey: u64,
     /// Of rings, and of the hue rings of cards.
     pub round: RoundTally,
+    /// Of rings that were also turned.
+    pub turned: TurnTally,
 }
 
 impl Tally {
@@ -116,7 +123,7 @@ impl From<Difference> for Failure {
     }
 }
 
-fn same<T: Debug + PartialEq>(
+pub fn same<T: Debug + PartialEq>(
     input: impl Fn() -> String,
     reference: T,
     engine: T,
@@ -203,7 +210,16 @@ fn verdict(
 /// Places behind the list that was lent: they are not the engine's to write.
 const BEHIND: usize = 4;
 
-pub fn modes(form: Form, case: &ModesCase, tally: &mut Tally) -> Result<(), Difference> {
+/// What the engine gave where it agrees with the reference, for whoever asks more of it.
+pub struct Agreed {
+    pub number: u32,
+    /// The list that was lent, as far as it was written.
+    pub separators: Vec<usize>,
+    /// The reference's ring, if it is one and was served.
+    pub ring: Option<Finished>,
+}
+
+pub fn modes(form: Form, case: &ModesCase, tally: &mut Tally) -> Result<Agreed, Difference> {
     let ModesCase {
         histogram,
         closeness,
@@ -213,10 +229,13 @@ pub fn modes(form: Form, case: &ModesCase, tally: &mut Tally) -> Result<(), Diff
     let mut list = unwritten(places + BEHIND);
     let mut expected_list = list.clone();
     let (engine_list, reference_list) = (&mut list[..*places], &mut expected_list[..*places]);
-    let (answer, expected) = match form {
+    let (answer, (expected, ring)) = match form {
         Form::Line => (
             engine::line_modes(&mut lent, *closeness, engine_list),
-            calls::line_modes(histogram, *closeness, reference_list),
+            (
+                calls::line_modes(histogram, *closeness, reference_list),
+                None,
+            ),
         ),
         Form::Ring => (
             engine::ring_modes(&mut lent, *closeness, engine_list),
@@ -231,26 +250,30 @@ pub fn modes(form: Form, case: &ModesCase, tally: &mut Tally) -> Result<(), Diff
         format!("modes, {form}, closeness {closeness}, {places} places, of {bins}")
     };
     let count = expected.separators as usize;
-    let of_one_mode = match form {
-        // The end of a line is a separator too.
-        Form::Line => 2,
-        Form::Ring => 1,
-    };
-    tally.several += u64::from(count > of_one_mode);
-    same(input, (expected.into_raw(), expected_list), (answer, list))?;
-    same(|| format!("histogram after {}", input()), histogram, &lent)
+    tally.several += u64::from(count > form.separators_of_one_mode());
+    let expected = (expected.into_raw(), expected_list);
+    let answer = (answer, list);
+    same(input, &expected, &answer)?;
+    same(|| format!("histogram after {}", input()), histogram, &lent)?;
+    let written = answer.1[..count].iter();
+    Ok(Agreed {
+        number: answer.0.number,
+        separators: written.map(|&bin| bin as usize).collect(),
+        ring,
+    })
 }
 
-/// The reference's answer, with the ring counted by its traits.
+/// The reference's answer and ring, which is counted by its traits.
 fn ring_modes(
     histogram: &[u32],
     closeness: i32,
     list: &mut [u32],
     round: &mut RoundTally,
-) -> ModesAnswer {
-    let (answer, traits) = calls::ring_modes_and_traits(histogram, closeness, list);
-    round.count(traits, answer.separators as usize);
-    answer
+) -> (ModesAnswer, Option<Finished>) {
+    let (answer, ring) = calls::ring_modes_and_ring(histogram, closeness, list);
+    let traits = ring.as_ref().map(|ring| ring.traits);
+    round.count(traits.unwrap_or_default(), answer.separators as usize);
+    (answer, ring)
 }
 
 impl Form {
@@ -258,6 +281,14 @@ impl Form {
         match self {
             Form::Line => "line",
             Form::Ring => "ring",
+        }
+    }
+
+    /// The end of a line is a separator too.
+    fn separators_of_one_mode(self) -> usize {
+        match self {
+            Form::Line => 2,
+            Form::Ring => 1,
         }
     }
 }
@@ -275,6 +306,6 @@ fn direction(rising: bool) -> &'static str {
     }
 }
 
-fn listed(histogram: &[u32]) -> String {
+pub fn listed(histogram: &[u32]) -> String {
     format!("{} bins {histogram:?}", histogram.len())
 }

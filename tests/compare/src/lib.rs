@@ -17,3 +17,5 @@ pub mod shapes;
 pub mod stored;
 pub mod text_groups;
 pub mod ties;
+pub mod turned_groups;
+pub mod turned_rings;

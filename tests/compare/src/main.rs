@@ -4,13 +4,15 @@
 //!
 //!     cargo run --release -p compare -- [--seed S] [--count N] [--only CALLS]
 //!
-//! CALLS is one of measures, fits, verdicts, lines, rings, cards, texts and stored. KISTROVU_LIB names another folder to
-//! take `libkistrovu.a` from; KISTROVU_CARD names the card program, which is then run on the stored swatches too.
+//! CALLS is one of measures, fits, verdicts, lines, rings, turns, cards, texts and stored; turns are rings that are turned
+//! as well. KISTROVU_LIB names another folder to take `libkistrovu.a` from; KISTROVU_CARD names the card program, which is
+//! then run on the stored swatches too.
 //! Without arguments the run is the same every time: all pixels, the listed histograms, lines, rings, swatches and texts,
 //! and random ones: `COUNT` histograms, and the shares of `COUNT` that the lists of groups give. Each group prints a
 //! line; at the first difference a group ends with the input and both answers. A group of rings or swatches made for joins
-//! round the ring, or for modes that are not in the order of bin numbers, also fails if it has too few of them. The last
-//! line is the number of groups passed and failed, and the exit code is 1 if one failed.
+//! round the ring, or for modes that are not in the order of bin numbers, also fails if it has too few of them, and so does
+//! a group of turned rings with too few on which a turn shows. The last line is the number of groups passed and failed, and
+//! the exit code is 1 if one failed.
 
 use cloths::random::Random;
 use compare::card_groups::CARDS;
@@ -19,6 +21,7 @@ use compare::groups::GROUPS;
 use compare::mode_groups::{ModesSource, BOTH, LINES, RINGS};
 use compare::round_joins::Least;
 use compare::text_groups::{GROUNDS, TEXTS};
+use compare::turned_groups::TURNED;
 use compare::{card_comparison, stored};
 use std::process::ExitCode;
 
@@ -31,8 +34,9 @@ const CARD_STREAMS: usize = 300;
 const TEXT_STREAMS: usize = 400;
 const PROGRAM_STREAM: usize = 500;
 const GROUND_STREAMS: usize = 600;
+const TURN_STREAMS: usize = 700;
 const USAGE: &str = "usage: compare [--seed S] [--count N] \
-    [--only measures|fits|verdicts|lines|rings|cards|texts|stored]";
+    [--only measures|fits|verdicts|lines|rings|turns|cards|texts|stored]";
 
 struct Options {
     seed: u64,
@@ -106,6 +110,9 @@ fn run(options: &Options) -> (usize, usize) {
     if calls.rings {
         run.modes(Form::Ring, &RINGS, RING_STREAMS);
     }
+    if calls.turns {
+        run.turned_rings();
+    }
     if calls.cards {
         run.cards();
     }
@@ -151,9 +158,24 @@ impl Run<'_> {
             let cases = source.cases(&mut random, self.options.count);
             let outcome = cases
                 .iter()
-                .try_for_each(|case| comparison::modes(form, case, &mut tally));
+                .try_for_each(|case| comparison::modes(form, case, &mut tally).map(drop));
             let outcome = judged(outcome, source.least(), &tally);
             self.note(&format!("{}, {name}", form.name()), tally, outcome);
+        }
+    }
+
+    fn turned_rings(&mut self) {
+        for (index, group) in TURNED.iter().enumerate() {
+            let mut tally = Tally::default();
+            let mut random = self.stream(TURN_STREAMS + index);
+            let cases = (group.cases)(&mut random, self.options.count);
+            let outcome = cases
+                .iter()
+                .try_for_each(|case| group.kind.compare(case, &mut tally));
+            let outcome = outcome
+                .map_err(Failure::from)
+                .and_then(|()| group.least.check(&tally.turned));
+            self.note(&format!("ring turned, {}", group.name), tally, outcome);
         }
     }
 
@@ -272,6 +294,9 @@ fn compared_modes(tally: &Tally) -> String {
     };
     if tally.round.rings > 0 {
         told += &format!(", {}", tally.round.told());
+    }
+    if tally.turned.rings > 0 {
+        told += &format!("; {}", tally.turned.told());
     }
     told
 }

@@ -53,10 +53,7 @@ pub const FEWEST_JUDGED: u64 = 500;
 
 impl Least {
     pub fn check(&self, tally: &RoundTally) -> Result<(), Failure> {
-        if tally.rings < FEWEST_JUDGED {
-            return Ok(());
-        }
-        for (what, least, found) in [
+        let numbers = [
             ("joined round the ring", self.joined, tally.joined),
             ("joined more than once", self.again, tally.again),
             ("joined into several modes", self.divided, tally.divided),
@@ -66,17 +63,25 @@ impl Least {
                 self.rotated,
                 tally.rotated,
             ),
-        ] {
-            let least = least * tally.rings / 1000;
-            if found < least {
-                return Err(Failure::TooFew(format!(
-                    "{what}: {found} of {} rings, but {least} at least are to be compared",
-                    tally.rings
-                )));
-            }
-        }
-        Ok(())
+        ];
+        enough(tally.rings, &numbers)
     }
+}
+
+/// Each number is what is counted, the least of it in thousandths of the rings, and how many were found.
+pub fn enough(rings: u64, numbers: &[(&str, u64, u64)]) -> Result<(), Failure> {
+    if rings < FEWEST_JUDGED {
+        return Ok(());
+    }
+    for &(what, least, found) in numbers {
+        let least = least * rings / 1000;
+        if found < least {
+            return Err(Failure::TooFew(format!(
+                "{what}: {found} of {rings} rings, but {least} at least are to be compared"
+            )));
+        }
+    }
+    Ok(())
 }
 
 #[cfg(test)]

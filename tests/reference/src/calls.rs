@@ -2,7 +2,7 @@
 
 use crate::cards::{self, Entry, Pixel};
 use crate::measures::{self, Measures};
-use crate::rings::RingTraits;
+use crate::rings::{Finished, RingTraits};
 use crate::test::{self, Verdict};
 use crate::{lines, pooling, rings, swatches};
 
@@ -112,13 +112,25 @@ pub fn ring_modes_and_traits(
     closeness: i32,
     list: &mut [u32],
 ) -> (ModesAnswer, RingTraits) {
-    let mut traits = RingTraits::default();
+    let (answer, ring) = ring_modes_and_ring(histogram, closeness, list);
+    (
+        answer,
+        ring.map_or(RingTraits::default(), |ring| ring.traits),
+    )
+}
+
+/// The same, with the finished ring, which has its modes by number; with none, if the call is turned down.
+pub fn ring_modes_and_ring(
+    histogram: &[u32],
+    closeness: i32,
+    list: &mut [u32],
+) -> (ModesAnswer, Option<Finished>) {
+    let mut ring = None;
     let answer = modes(histogram, closeness, list, |counts, closeness| {
-        let ring = rings::finished(counts, closeness);
-        traits = ring.traits;
-        ring.separators()
+        let finished = ring.insert(rings::finished(counts, closeness));
+        finished.separators()
     });
-    (answer, traits)
+    (answer, ring)
 }
 
 fn modes(
