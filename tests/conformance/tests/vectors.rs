@@ -4,7 +4,8 @@ use conformance::calls::{engine, reference, Answer, Call, Listing};
 use conformance::files::made;
 use conformance::kept::{cases, folder, FORMAT};
 use reference::rings::opening;
-use std::collections::BTreeMap;
+use reference::turns::{lowest_bins, turned, turned_list};
+use std::collections::{BTreeMap, BTreeSet};
 use std::fs;
 
 /// A file, the least number of its cases, and the least for each number that its call can give.
@@ -151,6 +152,58 @@ fn many_rings_are_not_listed_from_the_opening() {
     });
     let rotated = rotated.count();
     assert!(rotated >= LEAST_ROTATED, "{rotated}");
+}
+
+/// What turning leaves as it is: of all the turns of a ring the one that comes first in order, and the closeness.
+type Unturned = (Vec<u32>, i32);
+/// By how many bins each such ring is turned back in the kit, and its lists, turned back by as many.
+type Turns = BTreeMap<Unturned, (BTreeSet<usize>, BTreeSet<Vec<usize>>)>;
+
+/// Of the rings that are served.
+fn turns() -> Turns {
+    let mut found = Turns::new();
+    for case in cases("ring_modes", &kept_text("ring_modes")).expect("ring_modes") {
+        let separators = case.answer[1].values[0] as usize;
+        let given = match &case.call {
+            Call::RingModes(given) if separators > 0 => given,
+            _ => continue,
+        };
+        let (ring, bins) = (&given.histogram, given.histogram.len());
+        let back = (0..bins).min_by_key(|&by| turned(ring, by));
+        let back = back.expect("a ring that is served has bins");
+        let list = case.answer[2].values[..separators].iter();
+        let list: Vec<usize> = list.map(|&bin| bin as usize).collect();
+        let unturned = (turned(ring, back), given.closeness);
+        let (turns, lists) = found.entry(unturned).or_default();
+        turns.insert(back);
+        lists.insert(turned_list(&list, bins, back));
+    }
+    found
+}
+
+/// Of each length there is a ring that the kit has turned, from 59 bins on with several modes.
+#[test]
+fn rings_with_a_single_lowest_bin_turn_along() {
+    let mut turns = turns();
+    turns.retain(|(ring, _), _| lowest_bins(ring) == 1);
+    for (ring, (_, lists)) in &turns {
+        assert_eq!(lists.len(), 1, "{ring:?}: {lists:?}");
+    }
+    for (bins, modes, least) in [(2, 1, 2), (3, 1, 3), (59, 3, 3), (60, 3, 3), (256, 3, 3)] {
+        let met = turns.iter().any(|((ring, _), (turns, lists))| {
+            let several = lists.iter().all(|list| list.len() >= modes);
+            ring.len() == bins && several && turns.len() >= least
+        });
+        assert!(met, "{bins} bins");
+    }
+}
+
+/// The ring 1, 9, 0, 0, 9 and the same turned by 2.
+#[test]
+fn a_ring_with_two_lowest_bins_does_not_turn_along() {
+    let turns = turns();
+    let (_, lists) = &turns[&(vec![0, 0, 9, 1, 9], 0)];
+    assert!(lists.len() > 1, "{lists:?}");
 }
 
 #[test]

@@ -9,6 +9,7 @@ pub mod modes;
 pub mod pixels;
 mod rounds;
 pub mod texts;
+mod turns;
 pub mod verdicts;
 
 use crate::calls::Call;

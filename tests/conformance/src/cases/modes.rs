@@ -1,7 +1,7 @@
 //! Histograms for the modes of a line and of a ring.
 
 use super::histograms::{every, limits, telling, Named, SHAPES};
-use super::{rounds, unwritten_list, Case};
+use super::{rounds, turns, unwritten_list, Case};
 use crate::calls::{Call, Listing};
 use cloths::random::Random;
 use compare::mode_shapes;
@@ -90,6 +90,8 @@ pub fn rings() -> Vec<Case> {
     all.extend(for_rules(rounds::LIST_RULES));
     all.extend(ring_places());
     all.extend(turned());
+    let turns = turns::rings().into_iter();
+    all.extend(turns.map(|(named, closeness)| fitting(named, closeness)));
     all.extend(every_small(&[
         (2, &[0, 1, 20]),
         (3, &[0, 1, 20]),
