@@ -47,6 +47,9 @@ pub fn line_modes(histogram: &[u32], closeness: i32) -> Result<Vec<u32>, Ground>
 /// assert_eq!(ring_modes(&[94, 78, 144, 78, 143, 78, 78, 118, 78], 1)?, [3, 5]);
 /// // Opened at bin 0, which lies inside the one mode that is left: from bin 2 round to bin 1.
 /// assert_eq!(ring_modes(&[0, 4, 0, 0, 4], 0)?, [2]);
+/// // With a single lowest bin the separators turn with the ring: here by one bin.
+/// assert_eq!(ring_modes(&[50, 9, 0, 50, 3, 60, 2], 0)?, [2, 4, 6]);
+/// assert_eq!(ring_modes(&[2, 50, 9, 0, 50, 3, 60], 0)?, [0, 3, 5]);
 ///
 /// assert_eq!(ring_modes(&[20], 0), Err(Ground::Bins));
 /// assert_eq!(ring_modes(&[65_536, 1], 0), Err(Ground::Sum));
