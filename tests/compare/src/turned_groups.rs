@@ -152,6 +152,7 @@ fn joined(random: &mut Random, shape: Shape, bins: usize) -> TurnedCase {
     served(random, ring, closeness)
 }
 
+/// Of many lengths; half of them made for joins past the opening.
 fn drawn(random: &mut Random, count: usize) -> Vec<TurnedCase> {
     (0..count / 50)
         .map(|index| {
@@ -168,6 +169,7 @@ fn drawn(random: &mut Random, count: usize) -> Vec<TurnedCase> {
         .collect()
 }
 
+/// The opening's count once more in some other bin.
 fn several_lowest(random: &mut Random, count: usize) -> Vec<TurnedCase> {
     (0..count / 100)
         .map(|index| {
@@ -207,12 +209,12 @@ fn small_counts(random: &mut Random, bins: usize) -> Vec<u32> {
     one_lowest((0..bins).map(|_| random.within(0, top)).collect())
 }
 
-/// A cloth has a quarter of its bins in a hump.
+/// A hump is up to a quarter of the bins wide, so there have to be four or more.
 fn noisy_humps(random: &mut Random, bins: usize) -> Vec<u32> {
     one_lowest(mode_shapes::cloth(random, bins))
 }
 
-/// And none but the one is lower.
+/// One level, and one bin below it.
 fn all_equal_but_one(random: &mut Random, bins: usize) -> Vec<u32> {
     let level = random.within(1, MOST_COUNTS / bins as u32);
     let mut ring = vec![level; bins];
@@ -220,14 +222,14 @@ fn all_equal_but_one(random: &mut Random, bins: usize) -> Vec<u32> {
     ring
 }
 
-/// Of any shape, with as many counts as are served.
+/// Any shape, with the largest sum that is served.
 fn large_counts(random: &mut Random, bins: usize) -> Vec<u32> {
     let shape = SHAPES[random.below(SHAPES.len())];
     let ring = one_lowest(shape(random, bins));
     filled_up(random, ring)
 }
 
-/// With as many counts more in a bin other than the opening.
+/// What is missing to that sum is added to one bin, not to the opening.
 fn filled_up(random: &mut Random, mut ring: Vec<u32>) -> Vec<u32> {
     let other = (opening(&ring) + 1 + random.below(ring.len() - 1)) % ring.len();
     ring[other] += MOST_COUNTS - ring.iter().sum::<u32>();

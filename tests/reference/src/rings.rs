@@ -213,6 +213,7 @@ pub fn opened(counts: &[u64]) -> Vec<u64> {
 mod tests {
     use super::*;
     use crate::lines::Segment;
+    use crate::turns::{turned, turned_bin};
 
     /// Each has joins round the small rings.
     const CLOSENESSES: [i32; 3] = [-3, 0, 5];
@@ -283,11 +284,10 @@ mod tests {
         fn check_turned(&self) {
             self.check();
             let bins = self.counts.len();
-            for turn in 1..bins {
-                let mut counts = self.counts.to_vec();
-                counts.rotate_right(turn);
+            for by in 1..bins {
+                let counts = turned(self.counts, by);
                 let turned = |&(separator, peak): &(usize, usize)| {
-                    ((separator + turn) % bins, (peak + turn) % bins)
+                    (turned_bin(separator, bins, by), turned_bin(peak, bins, by))
                 };
                 let expected: Vec<(usize, usize)> = self.modes.iter().map(turned).collect();
                 assert_eq!(found(&counts, self.closeness), expected, "{counts:?}");
