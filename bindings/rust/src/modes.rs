@@ -37,7 +37,9 @@ pub fn line_modes(histogram: &[u32], closeness: i32) -> Result<Vec<u32>, Ground>
 /// the line from there round to that bin again are then joined all round the ring, past the opening too, so the opening
 /// need not be a separator. Modes are numbered from the opening on, not as they are listed: mode 0 begins at the opening
 /// if that is a separator, otherwise at the next one round the ring. A card numbers its hue modes so; it is made without
-/// the list. Grounds: [`Bins`](Ground::Bins), [`Sum`](Ground::Sum), [`Closeness`](Ground::Closeness).
+/// the list. If one bin is lower than all others, it does not matter which bin is bin 0: turned by any number of bins, the
+/// ring has its separators turned by as many. If several bins are lowest, this need not hold.
+/// Grounds: [`Bins`](Ground::Bins), [`Sum`](Ground::Sum), [`Closeness`](Ground::Closeness).
 ///
 /// ```
 /// # use kistrovu::{ring_modes, Ground};
@@ -47,9 +49,12 @@ pub fn line_modes(histogram: &[u32], closeness: i32) -> Result<Vec<u32>, Ground>
 /// assert_eq!(ring_modes(&[94, 78, 144, 78, 143, 78, 78, 118, 78], 1)?, [3, 5]);
 /// // Opened at bin 0, which lies inside the one mode that is left: from bin 2 round to bin 1.
 /// assert_eq!(ring_modes(&[0, 4, 0, 0, 4], 0)?, [2]);
-/// // With a single lowest bin the separators turn with the ring: here by one bin.
+/// // One bin is lowest. The second ring is the first, turned by one bin, and so are its separators.
 /// assert_eq!(ring_modes(&[50, 9, 0, 50, 3, 60, 2], 0)?, [2, 4, 6]);
 /// assert_eq!(ring_modes(&[2, 50, 9, 0, 50, 3, 60], 0)?, [0, 3, 5]);
+/// // Two are lowest: turned by two bins, the separators would be 2 and 4.
+/// assert_eq!(ring_modes(&[1, 9, 0, 0, 9], 0)?, [0, 2]);
+/// assert_eq!(ring_modes(&[0, 9, 1, 9, 0], 0)?, [0, 2]);
 ///
 /// assert_eq!(ring_modes(&[20], 0), Err(Ground::Bins));
 /// assert_eq!(ring_modes(&[65_536, 1], 0), Err(Ground::Sum));
