@@ -155,10 +155,11 @@ struct kistrovu_verdict_answer kistrovu_verdict(const uint32_t *histogram, size_
  * For example, the ring 94, 78, 144, 78, 143, 78, 78, 118, 78 at closeness 1, opened at bin 1, has the list 3, 5: bin 1 is no
  * separator, bins 3 and 4 are mode 0, and bins 5 to 8 and 0 to 2 mode 1. And the ring 9, 1, 9, 0, 9, 0 at closeness 0, opened
  * at bin 3, has the list 1, 3, 5: mode 0 starts at bin 3, mode 1 at bin 5 and mode 2 at bin 1.
- * It does not matter which bin of a ring is bin 0 if one bin is lower than all others: turned by any number of bins, the ring
- * has its separators turned by as many, and each mode keeps its bins and its number. If several bins are lowest, this need
- * not hold: the ring 1, 9, 0, 0, 9 at closeness 0, opened at bin 2, has the list 0, 2. Turned by two bins, the ring
- * 0, 9, 1, 9, 0 at closeness 0, opened at bin 0, has the list 0, 2 too, where 2, 4 would be due. */
+ * If one bin is lower than all others, it makes no difference which bin is called bin 0: in a ring turned by k bins, in which
+ * bin b has become bin b + k, counted round, every separator is k bins further on as well, and so are the bins of each mode,
+ * which keeps its number. If several bins share the lowest count it can make a difference: the ring 1, 9, 0, 0, 9 at
+ * closeness 0, opened at bin 2, has the list 0, 2. Turned by two bins it becomes another: the ring 0, 9, 1, 9, 0 at
+ * closeness 0, opened at bin 0, has the list 0, 2 too, instead of 2, 4. */
 
 struct kistrovu_modes_answer { /* 8 bytes */
     uint32_t number;

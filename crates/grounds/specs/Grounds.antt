@@ -1,4 +1,4 @@
--- The grounds for turning a call down, rules G1 to G11, and which of them concern a call (A2). A call answers with the number of a ground. Assumes nothing.
+-- The grounds for turning a call down, rules G1 to G11, and which of them concern a call (A2). A call answers with the number of the first that holds, or 0. Assumes nothing.
 use Prim.Native.Nat.{ℕ, _/_, _%_}
 use mathlib.Core.Bool.{Bool, cond, not, _||_}
 use mathlib.Core.List.{List, [], _∷_}
@@ -66,7 +66,7 @@ fewPlaces h places = record { number = 10; holds = ltb places (length h) }
 abbrev pub manyEntries : Closeness → List ℕ → Ground
 manyEntries e bytes = record { number = 11; holds = ltb mostEntries (length (entries e (pixelsOf bytes))) }
 
--- A2: the number of each call, from the grounds that concern it, in their order. The measures of a pixel have none
+-- A2: the number of each call, from the grounds that concern it, in their order. The version, the measures and the line of a ground have none
 unfoldable pub fitNumber : List ℕ → ℕ
 fitNumber h = firstGround (badLength h ∷ largeSum h ∷ [])
 

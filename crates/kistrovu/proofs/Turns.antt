@@ -18,7 +18,7 @@ use Rattle.kistrovu.specs.Answers.{served, modesAnswer, modesList, ringA
 use Rattle.kistrovu.specs.Facts.{listedSeparators, RingTurns}
 use Rattle.kistrovu.proofs.Modes.{modes-accepted}
 
--- turned down, a call lists none
+-- what a modes call lists: the separators if it is served, none if it is turned down
 call-lists : (separators list : List ℕ) (n : ℕ) → take (modesAnswer separators n .separators) (modesList separators n list) ≡ served n separators []
 unfolding modesAnswer modesList
 call-lists separators list n = go (eqb n 0)

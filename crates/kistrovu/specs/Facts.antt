@@ -59,10 +59,10 @@ pub record RingTurned (e : Closeness) (k : ℕ) (h list list′ : List ℕ) : Ty
   -- both are served, or both turned down with the same number; there are as many separators, and those that are listed turn along
   pub answer : ringAnswer e (turned k h) (length list′) ≡ ringAnswer e h (length list)
   pub listed : (b : ℕ) → b < length h → contains (listedSeparators e (turned k h) list′) (turnedBin k h b) ≡ contains (listedSeparators e h list) b
-  -- and each mode keeps its contents
+  -- and so do the modes
   pub modes : IfServed (modesNumber e h (length list)) (TurnsAlong e k h)
 
--- whatever was in the lists before, if they have as many places. Proved in proofs/Turns
+-- R9: whatever was in the lists before, if they have as many places. Proved in proofs/Turns
 abbrev pub RingTurns : Type 0
 RingTurns = (e : Closeness) (k : ℕ) (h list list′ : List ℕ) → SingleLowest h → length list′ ≡ length list → RingTurned e k h list list′
 

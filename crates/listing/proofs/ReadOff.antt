@@ -44,7 +44,7 @@ module _ (e : Closeness) (h : List ℕ) (two : 2 ≤ length h) where
   abbrev list : List ℕ
   list = ringSeparators e h
 
-  -- ---- the bins at places of the first turn and of the second
+  -- ---- d places on is d bins up, round the ring
   bin-up : (i d : ℕ) → (ringBin h i + d) % length h ≡ ringBin h (i + d)
   unfolding ringBin
   bin-up i d =

@@ -6,18 +6,17 @@ use mathlib.Core.List.{List, map}
 use native.Mathlib.Omega.{arith}
 use native.Mathlib.Nat.{mod-lt, mod-add-mod, mod-add-div, add-mul-mod-self-left}
 use lib.Dec.{ltb, eqb}
-use lib.ListN.{length, take, drop, getD}
+use lib.ListN.{length, getD}
 use borrow.Author.Tests.{eqb-true, eqb-false, eq-eqb, ne-eqb}
 use Rattle.lists.specs.Lists.{contains}
 use Rattle.lists.proofs.Each.{each-from}
 use Rattle.lists.proofs.Counting.{count-map, count-same}
-use Rattle.lists.proofs.Sums.{total-append, total-split}
-use Rattle.lists.proofs.Rotations.{mod-below, turned-length, turned-at}
+use Rattle.lists.proofs.Rotations.{mod-below, turned-length, turned-at, turned-total}
 use Rattle.segmentation.specs.Segments.{binAt}
 use Rattle.listing.specs.Turning.{turned, turnedBin, AlwaysTurned}
 
 module _ (k : ℕ) (h : List ℕ) where
-  -- so many bins stay in their order after those that move to the beginning
+  -- how many bins come after those that move to the front
   abbrev stay : ℕ
   stay = length h - k % length h
 
@@ -33,7 +32,7 @@ module _ (k : ℕ) (h : List ℕ) where
   unfolding turned
   former-holds c l = turned-at h stay (omega arith) c 0 l
 
-  -- to move by k and by those that stay makes whole turns
+  -- moving by k and then by `stay` makes whole turns
   whole-turns : (x y : ℕ) → x < length h → y ≡ x + (stay + k) → y % length h ≡ x
   whole-turns x y l q =
       let n = length h in
@@ -75,6 +74,6 @@ pub always-turned : AlwaysTurned
 unfolding turned
 always-turned k h = record {
   sameLength = same-length k h;
-  sameTotal = let stay = length h - k % length h in omega (arith, total-append (drop stay h) (take stay h), total-split stay h);
+  sameTotal = turned-total h (length h - k % length h);
   moved = bin-moved k h;
 }

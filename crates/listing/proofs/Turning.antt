@@ -26,7 +26,7 @@ module _ (k : ℕ) (h : List ℕ) (two : 2 ≤ length h) where
   some-turned : 1 ≤ length (turned k h)
   some-turned = omega (arith, same-length k h)
 
-  -- ---- the turned ring's opening was a lowest bin of the ring, and so was the ring's own
+  -- ---- both openings hold the lowest count, and only one bin does
   module _ (single : SingleLowest h) where
     only-lowest : (b : ℕ) → b < length h → binAt h b ≤ binAt h (single .bin) → b ≡ single .bin
     only-lowest b l low =
@@ -66,8 +66,8 @@ module _ (k : ℕ) (h : List ℕ) (two : 2 ≤ length h) where
         ap (linePlace (turned k h)) (sym (bin-turns p ∙ ap (turnedBin k h) (place-bin h some b l)))
         ∙ bin-place (turned k h) some-turned p (omega (arith, same-length k h, place-in h some b))
 
-    turn-stays : fromOpening (turned k h) ≡ fromOpening h
-    turn-stays =
+    round-stays : fromOpening (turned k h) ≡ fromOpening h
+    round-stays =
         let long = same-length k h in
         let there = opening-length (turned k h) some-turned in
         let here = opening-length h some in
@@ -76,19 +76,19 @@ module _ (k : ℕ) (h : List ℕ) (two : 2 ≤ length h) where
         opening-bins (turned k h) some-turned i (omega arith) ∙ ap (binAt (turned k h)) (bin-turns i) ∙ bin-moved k h (ringBin h i) (ring-in h some i)
         ∙ sym (opening-bins h some i (omega arith)))
 
-    turns-stay : twoTurns (turned k h) ≡ twoTurns h
+    rounds-stay : twoTurns (turned k h) ≡ twoTurns h
     unfolding twoTurns
-    turns-stay = ap (λ (turn : List ℕ). turn ++ turn) turn-stays
+    rounds-stay = ap (λ (turn : List ℕ). turn ++ turn) round-stays
 
     line-stays : opened (turned k h) ≡ opened h
     line-stays =
-        opened-turns (turned k h) some-turned ∙ ap₂ (λ (n : ℕ) (turns : List ℕ). take (suc n) turns) (same-length k h) turns-stay ∙ sym (opened-turns h some)
+        opened-turns (turned k h) some-turned ∙ ap₂ (λ (n : ℕ) (turns : List ℕ). take (suc n) turns) (same-length k h) rounds-stay ∙ sym (opened-turns h some)
 
     -- ---- so the modes stay, by places from the opening on
     module _ (e : Closeness) where
       modes-stay : ringModes e (turned k h) ≡ ringModes e h
       unfolding ringModes
-      modes-stay = rw (line-stays, turns-stay, same-length k h) refl
+      modes-stay = rw (line-stays, rounds-stay, same-length k h) refl
 
       mode-count : length (ringModes e (turned k h)) ≡ length (ringModes e h)
       mode-count = ap length modes-stay

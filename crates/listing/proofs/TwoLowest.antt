@@ -21,7 +21,7 @@ use Rattle.listing.specs.Turning.{turned, SameContents, SeparatorsTurn, 
 abbrev ring : List ℕ
 ring = turned 2 twoLowest
 
--- the lists, and in which modes the bins are that part: 2 and 4 of the ring, which the turn takes to 4 and 1
+-- the lists, and the modes of bins 2 and 4, which the turn takes to bins 4 and 1 and so to different modes
 record Computed : Type 0 where
   before : ringSeparators (pos 0) twoLowest ≡ 0 ∷ 2 ∷ []
   after : ringSeparators (pos 0) ring ≡ 0 ∷ 2 ∷ []

@@ -55,7 +55,7 @@ ring-total-bound h n = omega (arith, ring-total h (omega arith), opening-lowest 
 pub ring-small : (h : List ℕ) → 2 ≤ length h → length h ≤ mostRingBins → total h ≤ mostRingCounts → Small (opened h)
 ring-small h n l t = record { bins = omega (arith, ring-length h (omega arith)); counts = omega (arith, ring-total-bound h n) }
 
--- ---- the ring's numbers and the line's: each way back
+-- ---- the ring's numbers and the line's
 module _ (h : List ℕ) (n : 1 ≤ length h) where
   pub ring-in : (i : ℕ) → ringBin h i < length h
   unfolding ringBin
@@ -68,6 +68,7 @@ module _ (h : List ℕ) (n : 1 ≤ length h) where
       let z : opening h + (i + length h) ≡ opening h + i + length h = omega arith in
       ap (λ (j : ℕ). j % length h) z ∙ add-mod-right (opening h + i) (length h)
 
+  -- each way back
   pub place-in : (b : ℕ) → linePlace h b < length h
   unfolding linePlace
   place-in b = mod-lt (b + length h - opening h) n

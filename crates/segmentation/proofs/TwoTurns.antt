@@ -8,7 +8,7 @@ use lib.Seq.{length-take-le, getD-append-add, getD-take, getD-drop, take-append-
 use Rattle.lists.specs.Lists.{total, part, over}
 use Rattle.lists.proofs.Cases.{by-order}
 use Rattle.lists.proofs.Sums.{total-append, total-split, total-take-le}
-use Rattle.lists.proofs.Rotations.{turned-length, turned-at}
+use Rattle.lists.proofs.Rotations.{turned-length, turned-at, turned-total}
 use Rattle.lists.proofs.Buffers.{over-take}
 use Rattle.segmentation.specs.Segments.{binAt}
 use Rattle.segmentation.specs.Ring.{opening, opened, ringBin}
@@ -22,7 +22,7 @@ opening-length h n = turned-length h (opening h) (omega (arith, opening-in h n))
 
 pub opening-total : (h : List ℕ) → total (fromOpening h) ≡ total h
 unfolding fromOpening
-opening-total h = omega (arith, total-append (drop (opening h) h) (take (opening h) h), total-split (opening h) h)
+opening-total h = turned-total h (opening h)
 
 pub opening-bins : (h : List ℕ) → 1 ≤ length h → (i : ℕ) → i < length h → binAt (fromOpening h) i ≡ binAt h (ringBin h i)
 unfolding fromOpening ringBin
