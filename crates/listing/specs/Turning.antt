@@ -57,8 +57,8 @@ pub record TurnsAlong (e : Closeness) (k : ℕ) (h : List ℕ) : Type 0 where
   pub asMany : length (ringSeparators e (turned k h)) ≡ length (ringSeparators e h)
   pub contents : ContentsKept e k h
   -- R9: each mode keeps its number too. So the modes start, in their order, at the bins where they started, turned
-  pub sameModes : length (ringModes e (turned k h)) ≡ length (ringModes e h)
   pub sameNumbers : (m : ℕ) → SameContents e k h m m
+  pub sameModes : length (ringModes e (turned k h)) ≡ length (ringModes e h)
   pub starts : ringStarts e (turned k h) ≡ map (turnedBin k h) (ringStarts e h)
 
 -- R9: it does, with a single lowest bin. Proved in proofs/Turning
