@@ -3,7 +3,7 @@
 --   SingleLowest                    one bin is lower than every other
 --   SeparatorsTurn, ContentsKept    separators move with their bins, and so do the bins of each mode
 --   TurnsAlong                      these two, how many separators there are, and the numbers of the modes
---   TurningKeeps, TwoLowest         a ring with a single lowest bin turns along; one with two does not
+--   TurningKeeps, TwoLowest         every ring with a single lowest bin turns along; one with two lowest bins that does not
 use Prim.Native.Nat.{ℕ, _+_, _-_, _%_, _≤_, _<_}
 use mathlib.Core.Path.{_≡_}
 use mathlib.Core.List.{List, [], _∷_, _++_, map}
@@ -61,7 +61,7 @@ pub record TurnsAlong (e : Closeness) (k : ℕ) (h : List ℕ) : Type 0 where
   pub sameModes : length (ringModes e (turned k h)) ≡ length (ringModes e h)
   pub starts : ringStarts e (turned k h) ≡ map (turnedBin k h) (ringStarts e h)
 
--- R9: it does, with a single lowest bin. Proved in proofs/Turning
+-- R9: every ring with a single lowest bin turns along. Proved in proofs/Turning
 abbrev pub TurningKeeps : Type 0
 TurningKeeps = (e : Closeness) (k : ℕ) (h : List ℕ) → 2 ≤ length h → SingleLowest h → TurnsAlong e k h
 
