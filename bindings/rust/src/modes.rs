@@ -37,8 +37,9 @@ pub fn line_modes(histogram: &[u32], closeness: i32) -> Result<Vec<u32>, Ground>
 /// the line from there round to that bin again are then joined all round the ring, past the opening too, so the opening
 /// need not be a separator. Modes are numbered from the opening on, not as they are listed: mode 0 begins at the opening
 /// if that is a separator, otherwise at the next one round the ring. A card numbers its hue modes so; it is made without
-/// the list. If one bin is lower than all others, it makes no difference which bin is called bin 0: in a turned ring every
-/// separator is as many bins further on. If several bins share the lowest count, it can make a difference.
+/// the list. If one bin is lower than all others, it makes no difference which bin is called bin 0: in a ring turned by k
+/// bins every separator is k bins further on, counted round, and so are the bins of each mode, which keeps its number. If
+/// several bins share the lowest count, it can make a difference.
 /// Grounds: [`Bins`](Ground::Bins), [`Sum`](Ground::Sum), [`Closeness`](Ground::Closeness).
 ///
 /// ```

@@ -1,4 +1,4 @@
-//! Rings that are turned: with a single lowest bin their separators turn by as many bins, with two they need not.
+//! Rings that are turned: with a single lowest bin their separators turn along, with two they need not.
 
 use kistrovu::raw::{LEAST_CLOSENESS, MOST_CLOSENESS};
 use kistrovu::ring_modes;
@@ -44,7 +44,7 @@ fn with_a_single_lowest_bin_separators_turn_along() {
 
 /// Turned by two bins, 0 and 2 would be 2 and 4.
 #[test]
-fn with_two_lowest_bins_they_need_not() {
+fn with_two_lowest_bins_separators_need_not_turn_along() {
     let ring = [1, 9, 0, 0, 9];
     let there = turned_by_one(&turned_by_one(&ring));
     assert_eq!(there, [0, 9, 1, 9, 0]);

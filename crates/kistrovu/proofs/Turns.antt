@@ -31,7 +31,7 @@ module _ (e : Closeness) (k : ℕ) (h list list′ : List ℕ) (single : SingleL
   abbrev number : ℕ
   number = modesNumber e h (length list)
 
-  -- the grounds see only how many bins there are, and their sum
+  -- of a ring the grounds see only how many bins it has, and the sum of their counts
   same-number : modesNumber e (turned k h) (length list′) ≡ number
   unfolding modesNumber
   same-number = let t = always-turned k h in rw (t .sameLength, t .sameTotal, places) refl

@@ -47,7 +47,7 @@ SeparatorsTurn e k h = (b : ℕ) → b < length h → contains (ringSeparators e
 abbrev pub SameContents : Closeness → ℕ → List ℕ → (m n : ℕ) → Type 0
 SameContents e k h m n = (b : ℕ) → b < length h → inRingMode e (turned k h) n (turnedBin k h b) ≡ inRingMode e h m b
 
--- R9: each mode keeps its contents, whatever its number is after the turn
+-- R9: for each mode some mode of the turned ring has the same contents, whatever its number is
 abbrev pub ContentsKept : Closeness → ℕ → List ℕ → Type 0
 ContentsKept e k h = (m : ℕ) → m < length (ringModes e h) → (n : ℕ) × (n < length (ringModes e (turned k h))) × SameContents e k h m n
 

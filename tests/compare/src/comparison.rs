@@ -229,19 +229,12 @@ pub fn modes(form: Form, case: &ModesCase, tally: &mut Tally) -> Result<Agreed, 
     let mut list = unwritten(places + BEHIND);
     let mut expected_list = list.clone();
     let (engine_list, reference_list) = (&mut list[..*places], &mut expected_list[..*places]);
-    let (answer, (expected, ring)) = match form {
-        Form::Line => (
-            engine::line_modes(&mut lent, *closeness, engine_list),
-            (
-                calls::line_modes(histogram, *closeness, reference_list),
-                None,
-            ),
-        ),
-        Form::Ring => (
-            engine::ring_modes(&mut lent, *closeness, engine_list),
-            ring_modes(histogram, *closeness, reference_list, &mut tally.round),
-        ),
+    let engine_modes = match form {
+        Form::Line => engine::line_modes,
+        Form::Ring => engine::ring_modes,
     };
+    let answer = engine_modes(&mut lent, *closeness, engine_list);
+    let (expected, ring) = expected_modes(form, case, reference_list, &mut tally.round);
     tally.modes += 1;
     tally.count(expected.number);
     let input = || {
@@ -263,13 +256,17 @@ pub fn modes(form: Form, case: &ModesCase, tally: &mut Tally) -> Result<Agreed, 
     })
 }
 
-/// The reference's answer and ring, which is counted by its traits.
-fn ring_modes(
-    histogram: &[u32],
-    closeness: i32,
+/// The reference's answer; of a ring also its modes, which are counted by their traits.
+fn expected_modes(
+    form: Form,
+    case: &ModesCase,
     list: &mut [u32],
     round: &mut RoundTally,
 ) -> (ModesAnswer, Option<Finished>) {
+    let (histogram, closeness) = (&case.histogram, case.closeness);
+    if let Form::Line = form {
+        return (calls::line_modes(histogram, closeness, list), None);
+    }
     let (answer, ring) = calls::ring_modes_and_ring(histogram, closeness, list);
     let traits = ring.as_ref().map(|ring| ring.traits);
     round.count(traits.unwrap_or_default(), answer.separators as usize);

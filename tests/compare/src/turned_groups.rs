@@ -74,7 +74,7 @@ const MOST_COUNTS: u32 = 65_536;
 /// Shapes for any number of bins.
 const ANY_LENGTH: [Shape; 3] = [small_counts, all_equal_but_one, large_counts];
 
-/// And those for as many bins as there are hues.
+/// For as many bins as there are hues: these, and humps with noise.
 const AS_HUES: [Shape; 4] = [small_counts, all_equal_but_one, large_counts, noisy_humps];
 
 /// No bin, one bin, one bin back, a full turn, one more, and any number beyond.
@@ -244,10 +244,9 @@ fn one_lowest(mut ring: Vec<u32>) -> Vec<u32> {
         ring[opening] -= 1;
         return ring;
     }
-    let allowed = MOST_COUNTS.max(ring.iter().sum());
     ring.iter_mut().for_each(|count| *count = (*count).max(1));
     ring[opening] = 0;
-    let over = ring.iter().sum::<u32>().saturating_sub(allowed);
+    let over = ring.iter().sum::<u32>().saturating_sub(MOST_COUNTS);
     if let Some(highest) = ring.iter_mut().max() {
         *highest -= over;
     }
@@ -255,8 +254,11 @@ fn one_lowest(mut ring: Vec<u32>) -> Vec<u32> {
 }
 
 fn opening(ring: &[u32]) -> usize {
-    let counts: Vec<u64> = ring.iter().map(|&count| u64::from(count)).collect();
-    rings::opening(&counts)
+    rings::opening(&widened(ring))
+}
+
+fn widened(ring: &[u32]) -> Vec<u64> {
+    ring.iter().map(|&count| u64::from(count)).collect()
 }
 
 #[cfg(test)]
@@ -316,6 +318,19 @@ mod tests {
             let met: BTreeSet<i32> = of_it.map(|case| case.given.closeness).collect();
             assert!(met.into_iter().eq(LEAST_CLOSENESS..=MOST_CLOSENESS));
         }
+    }
+
+    /// Two or three bins are too few for several modes.
+    #[test]
+    fn some_rings_of_each_longer_length_have_several_modes() {
+        let cases = cases("2, 3, 59, 60 and 256 bins");
+        let several = |case: &&TurnedCase| {
+            let counts = widened(&case.given.histogram);
+            rings::finished(&counts, case.given.closeness).modes.len() > 1
+        };
+        let several = cases.iter().filter(several);
+        let lengths: BTreeSet<usize> = several.map(|case| case.given.histogram.len()).collect();
+        assert!(lengths.into_iter().eq([59, 60, 256]));
     }
 
     #[test]

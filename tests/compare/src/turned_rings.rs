@@ -1,5 +1,6 @@
 //! Rings, and the same rings turned (R9). A ring with a single lowest bin opens there wherever its bins begin to number, so
-//! its separators turn along, and each mode keeps its number and its contents. With several lowest bins this need not be.
+//! its separators move with it, and each mode has the moved bins and its old number. With several lowest bins neither need
+//! be so.
 
 use crate::comparison::{listed, modes, same, Agreed, Difference, Failure, Form, Tally};
 use crate::mode_groups::ModesCase;
@@ -50,6 +51,14 @@ pub struct LeastTurned {
     pub parted: u64,
 }
 
+/// What the turns of a ring show, as it is counted.
+#[derive(Default)]
+struct Shown {
+    reordered: bool,
+    astray: bool,
+    parted: bool,
+}
+
 /// A ring's answer, and that of the ring turned.
 struct Turn<'a> {
     bins: usize,
@@ -63,7 +72,7 @@ impl Kind {
     pub fn compare(&self, case: &TurnedCase, tally: &mut Tally) -> Result<(), Difference> {
         let here = modes(Form::Ring, &case.given, tally)?;
         self.premise(case, &here)?;
-        let (mut reordered, mut astray, mut parted) = (false, false, false);
+        let mut shown = Shown::default();
         for &by in &case.turns {
             let there = modes(Form::Ring, &case.turned(by), tally)?;
             let turn = Turn {
@@ -72,14 +81,25 @@ impl Kind {
                 here: &here,
                 there: &there,
             };
-            if self.turns_along() {
-                turn.along(|| told(case, by))?;
-            }
-            reordered |= turn.is_reordered();
-            astray |= turn.is_astray();
-            parted |= turn.is_parted();
+            self.judge(&turn, || told(case, by), &mut shown)?;
         }
-        tally.turned.count(&here, reordered, astray, parted);
+        tally.turned.count(&here, &shown);
+        Ok(())
+    }
+
+    /// A turn, judged if the ring has to turn along, and noted for the counts.
+    fn judge(
+        &self,
+        turn: &Turn,
+        told: impl Fn() -> String,
+        shown: &mut Shown,
+    ) -> Result<(), Difference> {
+        if self.turns_along() {
+            turn.along(told)?;
+        }
+        shown.reordered |= turn.is_reordered();
+        shown.astray |= turn.is_astray();
+        shown.parted |= turn.is_parted();
         Ok(())
     }
 
@@ -117,11 +137,7 @@ impl Turn<'_> {
         let (here, there) = (self.here, self.there);
         let what = |name: &str| format!("{name}, {}", told());
         same(|| what("number"), here.number, there.number)?;
-        let (due, found) = (here.separators.len(), there.separators.len());
-        same(|| what("how many separators"), due, found)?;
         same(|| what("list"), &self.due_list(), &there.separators)?;
-        let (due, found) = self.contents();
-        same(|| what("contents of the modes"), due, found)?;
         same(
             || what("whether there are modes"),
             here.ring.is_some(),
@@ -132,8 +148,13 @@ impl Turn<'_> {
         };
         let (due, found) = self.starts(here, there);
         same(|| what("separators by mode"), due, found)?;
-        let (due, found) = self.numbers(here, there);
-        same(|| what("numbers of the bins' modes"), due, found)
+        let due = turned(&mode_of_each(here, self.bins), self.by);
+        let found = listed_modes(&self.there.separators, self.bins);
+        same(
+            || what("contents of the modes"),
+            contents(&due),
+            contents(&found),
+        )
     }
 
     /// The list that the turn of each separator makes.
@@ -152,11 +173,6 @@ impl Turn<'_> {
     fn starts(&self, here: &Finished, there: &Finished) -> (Vec<usize>, Vec<usize>) {
         let due = turned_starts(&here.starts(), self.bins, self.by);
         (due, there.starts())
-    }
-
-    fn numbers(&self, here: &Finished, there: &Finished) -> (Vec<usize>, Vec<usize>) {
-        let due = turned(&mode_of_each(here, self.bins), self.by);
-        (due, mode_of_each(there, self.bins))
     }
 
     fn is_reordered(&self) -> bool {
@@ -185,19 +201,19 @@ pub fn listed_modes(list: &[usize], bins: usize) -> Vec<Option<usize>> {
 }
 
 impl TurnTally {
-    fn count(&mut self, ring: &Agreed, reordered: bool, astray: bool, parted: bool) {
+    fn count(&mut self, ring: &Agreed, shown: &Shown) {
         self.rings += 1;
         self.several += u64::from(ring.separators.len() > 1);
         let traits = ring.ring.as_ref().map(|ring| ring.traits);
         self.joined += u64::from(traits.unwrap_or_default().past_the_opening > 0);
-        self.reordered += u64::from(reordered);
-        self.astray += u64::from(astray);
-        self.parted += u64::from(parted);
+        self.reordered += u64::from(shown.reordered);
+        self.astray += u64::from(shown.astray);
+        self.parted += u64::from(shown.parted);
     }
 
     pub fn told(&self) -> String {
         format!(
-            "{} of them turned: {} of several modes, {} whose list comes to begin elsewhere, {} joined past the opening, \
+            "{} rings, each with its turns: {} of several modes, {} whose list comes to begin elsewhere, {} joined past the opening, \
             {} that do not turn along, {} with modes of other contents",
             self.rings, self.several, self.reordered, self.joined, self.astray, self.parted
         )
@@ -239,16 +255,21 @@ mod tests {
     /// Three modes that start at bins 3, 5 and 0, and the same ring turned by one bin, as an engine gives it that changes
     /// the answer.
     fn is_noticed(changes: impl FnOnce(&mut Agreed)) -> bool {
-        let here = agreed(&[2, 50, 9, 0, 50, 3, 60]);
-        let mut there = agreed(&[60, 2, 50, 9, 0, 50, 3]);
+        is_noticed_of(&[2, 50, 9, 0, 50, 3, 60], changes)
+    }
+
+    fn is_noticed_of(ring: &[u64], changes: impl FnOnce(&mut Agreed)) -> bool {
+        let here = agreed(ring);
+        let mut there = agreed(&turned(ring, 1));
         changes(&mut there);
         let turn = Turn {
-            bins: 7,
+            bins: ring.len(),
             by: 1,
             here: &here,
             there: &there,
         };
-        turn.along(String::new).is_err()
+        let judged = Kind::SingleLowest.judge(&turn, String::new, &mut Shown::default());
+        judged.is_err()
     }
 
     #[test]
@@ -259,6 +280,8 @@ mod tests {
         assert!(is_noticed(|there| there.separators.truncate(2)));
         assert!(is_noticed(|there| there.separators.rotate_left(1)));
         assert!(is_noticed(|there| there.ring = None));
+        // One mode has all bins, wherever it starts.
+        assert!(is_noticed_of(&[1, 5, 2], |there| there.separators[0] = 0));
         let ring = |there: &mut Agreed, changes: fn(&mut Finished)| {
             changes(there.ring.as_mut().expect("it is served"));
         };
@@ -294,11 +317,17 @@ mod tests {
     }
 
     /// The second ring does not turn along by 2, nor do the contents of its modes. The third, turned by 2, is the same ring,
-    /// with the same one mode.
+    /// with the same one mode. The fourth is joined past its opening, and the list of the last has one separator.
     #[test]
     fn rings_are_counted_by_what_turning_shows() {
         let mut tally = Tally::default();
-        for ring in [&[9, 1, 9, 0, 9][..], &[1, 9, 0, 0, 9], &[0, 1, 0, 1]] {
+        for ring in [
+            &[9, 1, 9, 0, 9][..],
+            &[1, 9, 0, 0, 9],
+            &[0, 1, 0, 1],
+            &[0, 4, 0, 0, 4],
+            &[1, 5, 2],
+        ] {
             let single = lowest_bins(ring) == 1;
             let kind = if single {
                 Kind::SingleLowest
@@ -307,14 +336,9 @@ mod tests {
             };
             assert!(kind.compare(&case(ring, 0), &mut tally).is_ok());
         }
-        let TurnTally {
-            rings,
-            several,
-            astray,
-            parted,
-            ..
-        } = tally.turned;
-        assert_eq!([rings, several, astray, parted], [3, 2, 2, 1]);
+        let found = tally.turned;
+        assert_eq!((found.rings, found.several, found.reordered), (5, 2, 4));
+        assert_eq!((found.joined, found.astray, found.parted), (1, 3, 1));
     }
 
     /// The second list is that of the header's first ring.

@@ -181,7 +181,8 @@ fn turns() -> Turns {
     found
 }
 
-/// Of each length there is a ring that the kit has turned, from 59 bins on with several modes.
+/// No ring of the kit with a single lowest bin has two lists, turned back. Of 2, 3, 59, 60 and 256 bins there is one that the
+/// kit has turned; from 59 on it has three modes or more.
 #[test]
 fn rings_with_a_single_lowest_bin_turn_along() {
     let mut turns = turns();

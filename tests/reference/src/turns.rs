@@ -4,7 +4,7 @@
 use crate::cards::mode_of;
 use crate::rings::Finished;
 
-/// The bin that a bin of a ring comes to be. Any number of bins will do, also a full turn and more.
+/// The number that a bin has after the turn. `by` is any number, also a full turn and more.
 pub fn turned_bin(bin: usize, bins: usize, by: usize) -> usize {
     (bin + by % bins) % bins
 }
@@ -31,7 +31,7 @@ pub fn turned_list(list: &[usize], bins: usize, by: usize) -> Vec<usize> {
     turned
 }
 
-/// How many bins have the lowest count. Of a ring with one of them the opening turns along.
+/// How many bins have the lowest count. If only one has it, the opening turns along.
 pub fn lowest_bins<T: Ord>(ring: &[T]) -> usize {
     let lowest = ring.iter().min();
     ring.iter().filter(|&count| Some(count) == lowest).count()

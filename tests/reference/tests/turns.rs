@@ -8,7 +8,7 @@ use reference::rings::{finished, opening, separators, Finished};
 use reference::turns::*;
 use scatter::Scatter;
 
-/// No bin, one bin on, the last bin, a full turn, more than that, and the largest number there is.
+/// No bin, one bin, one bin back, a full turn, one bin more, five turns and two bins, and the largest number there is.
 fn turns(bins: usize) -> [usize; 7] {
     [0, 1, bins - 1, bins, bins + 1, 5 * bins + 2, usize::MAX]
 }
@@ -168,8 +168,8 @@ fn a_ring_that_is_turned_down_gets_the_same_number_turned() {
         (6, &[5], 0, 1),
         (6, &[1; 257], 0, 257),
         (7, &[3, 65_530, 4], 0, 3),
-        (8, &[3, 1, 2], -11, 3),
-        (8, &[3, 1, 2], 21, 3),
+        (8, &[3, 1, 2], LEAST_CLOSENESS - 1, 3),
+        (8, &[3, 1, 2], MOST_CLOSENESS + 1, 3),
         (10, &[3, 1, 2], 0, 2),
     ];
     for (number, ring, closeness, places) in cases {

@@ -86,12 +86,11 @@ pub fn rings() -> Vec<Case> {
     all.extend(for_rules(RING_RULES));
     all.extend(for_rules(rounds::ROUND_RULES));
     let round = rounds::rings().into_iter().chain(rounds::longest_lists());
+    let round = round.chain(turns::rings());
     all.extend(round.map(|(named, closeness)| fitting(named, closeness)));
     all.extend(for_rules(rounds::LIST_RULES));
     all.extend(ring_places());
     all.extend(turned());
-    let turns = turns::rings().into_iter();
-    all.extend(turns.map(|(named, closeness)| fitting(named, closeness)));
     all.extend(every_small(&[
         (2, &[0, 1, 20]),
         (3, &[0, 1, 20]),
@@ -456,13 +455,10 @@ fn for_rules(rules: &[Rule]) -> Vec<Asked> {
 /// One ring turned on bin by bin, and rings whose lowest bin comes again.
 fn turned() -> Vec<Asked> {
     let mut all = Vec::new();
-    let mut ring = vec![1, 30, 9, 0, 40, 9];
-    for turns in 0..ring.len() {
-        all.push(fitting(
-            (format!("a ring turned on by {turns} bins"), ring.clone()),
-            0,
-        ));
-        ring.rotate_right(1);
+    let ring = [1, 30, 9, 0, 40, 9];
+    for by in 0..ring.len() {
+        let what = format!("a ring turned on by {by} bins");
+        all.push(fitting((what, reference::turns::turned(&ring, by)), 0));
     }
     for ring in [
         vec![0, 0, 20],

@@ -3,6 +3,7 @@
 use super::histograms::Named;
 use super::modes::Rule;
 use reference::calls::MOST_BINS;
+use reference::turns::turned;
 
 /// Rings on which an engine that takes runs round the ring in another way gives other separators.
 pub const ROUND_RULES: &[Rule] = &[
@@ -189,11 +190,10 @@ pub fn rings() -> Vec<(Named, i32)> {
 /// Which of the lowest bins is the opening depends on where the ring begins, and so does what is joined past it.
 fn turned_on() -> Vec<(Named, i32)> {
     let mut all = Vec::new();
-    let mut ring = vec![0, 4, 0, 0, 9];
-    for turns in 0..ring.len() {
-        let what = format!("which of equal bins is the opening: a ring turned on by {turns} bins");
-        all.push(((what, ring.clone()), 0));
-        ring.rotate_right(1);
+    let ring = [0, 4, 0, 0, 9];
+    for by in 0..ring.len() {
+        let what = format!("which of equal bins is the opening: a ring turned on by {by} bins");
+        all.push(((what, turned(&ring, by)), 0));
     }
     all
 }
@@ -211,8 +211,7 @@ fn over_the_opening(bins: usize, opening: usize) -> Vec<u32> {
     };
     let mut ring: Vec<u32> = (0..bins).map(at).collect();
     ring[0] = 3;
-    ring.rotate_right(opening);
-    ring
+    turned(&ring, opening)
 }
 
 /// As many bins as there can be, with the opening in their middle and at their end.
@@ -241,8 +240,7 @@ fn four_humps(opening: usize) -> Vec<u32> {
     };
     let mut ring: Vec<u32> = (0..MOST_BINS).map(at).collect();
     ring[0] -= 1;
-    ring.rotate_right(opening);
-    ring
+    turned(&ring, opening)
 }
 
 /// A ring of two or three bins has one mode, and so has a flat one, which neither closeness changes.
