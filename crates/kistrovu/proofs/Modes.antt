@@ -24,13 +24,16 @@ pub record ModesAccepted (e : Closeness) (h : List ℕ) (places : ℕ) : Type 0 
   pub close : Offered e
   pub room : length h ≤ places
 
+pub accepted : (e : Closeness) (h : List ℕ) (places : ℕ) → modesNumber e h places ≡ 0 → ModesAccepted e h places
+accepted e h places z =
+    let m = modes-served e h places z in
+    let v = verdict-served e h (m .0) in
+    record { histogram = fit-served h (v .0); close = v .1; room = m .1 }
+
 module _ (e : Closeness) (h list : List ℕ) (n : ℕ) (number : n ≡ modesNumber e h (length list)) where
   module _ (z : n ≡ 0) where
     pub modes-accepted : ModesAccepted e h (length list)
-    modes-accepted =
-        let m = modes-served e h (length list) (sym number ∙ z) in
-        let v = verdict-served e h (m .0) in
-        record { histogram = fit-served h (v .0); close = v .1; room = m .1 }
+    modes-accepted = accepted e h (length list) (sym number ∙ z)
 
     pub modes-small : Small h
     modes-small = let a = modes-accepted .histogram in record { bins = omega (arith, a .bins); counts = omega (arith, a .counts) }

@@ -54,17 +54,18 @@ CardAgain = (e : Closeness) (bytes before before′ : List ℕ) → length befor
 abbrev pub listedSeparators : Closeness → List ℕ → List ℕ → List ℕ
 listedSeparators e h list = take (ringAnswer e h (length list) .separators) (ringList e h list)
 
--- R9: two ring calls, on a ring and on the ring turned by k bins
-pub record RingTurned (e : Closeness) (k : ℕ) (h list list′ : List ℕ) : Type 0 where
-  -- both are served, or both turned down with the same number; there are as many separators, and those that are listed turn along
-  pub answer : ringAnswer e (turned k h) (length list′) ≡ ringAnswer e h (length list)
-  pub listed : (b : ℕ) → b < length h → contains (listedSeparators e (turned k h) list′) (turnedBin k h b) ≡ contains (listedSeparators e h list) b
-  -- and so do the modes
-  pub modes : IfServed (modesNumber e h (length list)) (TurnsAlong e k h)
+-- R9: the ring call on a ring turned by k bins, beside the call on the ring
+pub record RingTurned (e : Closeness) (k : ℕ) (h : List ℕ) : Type 0 where
+  -- with a list of as many places it is served, or turned down with the same number, and there are as many separators
+  pub answer : (places : ℕ) → ringAnswer e (turned k h) places ≡ ringAnswer e h places
+  -- if both are served, the separators listed are the turned ones, whatever the lists held and however many places they have; and the modes turn along
+  pub listed : (list list′ : List ℕ) → IfServed (modesNumber e h (length list)) (IfServed (modesNumber e (turned k h) (length list′)) (
+      (b : ℕ) → b < length h → contains (listedSeparators e (turned k h) list′) (turnedBin k h b) ≡ contains (listedSeparators e h list) b))
+  pub modes : (places : ℕ) → IfServed (modesNumber e h places) (TurnsAlong e k h)
 
--- R9: whatever was in the lists before, if they have as many places. Proved in proofs/Turns
+-- R9: of every ring with a single lowest bin. Proved in proofs/Turns
 abbrev pub RingTurns : Type 0
-RingTurns = (e : Closeness) (k : ℕ) (h list list′ : List ℕ) → SingleLowest h → length list′ ≡ length list → RingTurned e k h list list′
+RingTurns = (e : Closeness) (k : ℕ) (h : List ℕ) → SingleLowest h → RingTurned e k h
 
 -- X8: a text longer than any swatch gets the same answer as its first bytes, up to the one that makes it too long. Proved in proofs/Texts
 abbrev pub LongText : Type 0

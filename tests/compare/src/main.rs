@@ -174,7 +174,7 @@ impl Run<'_> {
                 .try_for_each(|case| group.kind.compare(case, &mut tally));
             let outcome = outcome
                 .map_err(Failure::from)
-                .and_then(|()| group.least.check(&tally.turned));
+                .and_then(|()| tally.turned.check(&group.least));
             self.note(&format!("ring turned, {}", group.name), tally, outcome);
         }
     }

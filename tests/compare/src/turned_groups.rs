@@ -5,7 +5,7 @@ use crate::joined_shapes::{self, JOINED_SHAPES};
 use crate::mode_groups::ModesCase;
 use crate::mode_shapes;
 use crate::shapes::{Shape, SHAPES};
-use crate::turned_rings::{Kind, LeastTurned, TurnedCase};
+use crate::turned_rings::{Kind, TurnedCase, Turns};
 use cloths::random::Random;
 use reference::calls::{LEAST_CLOSENESS, MOST_BINS, MOST_CLOSENESS};
 use reference::rings;
@@ -15,7 +15,8 @@ pub struct TurnedGroup {
     pub name: &'static str,
     pub cases: fn(&mut Random, usize) -> Vec<TurnedCase>,
     pub kind: Kind,
-    pub least: LeastTurned,
+    /// In thousandths of the rings.
+    pub least: Turns,
 }
 
 // The least numbers are well below what the run without arguments has, so that another seed does not fall below by chance.
@@ -24,7 +25,7 @@ pub const TURNED: [TurnedGroup; 4] = [
         name: "2, 3, 59, 60 and 256 bins",
         cases: stated_lengths,
         kind: Kind::SingleLowest,
-        least: LeastTurned {
+        least: Turns {
             several: 60,
             reordered: 40,
             joined: 20,
@@ -35,7 +36,7 @@ pub const TURNED: [TurnedGroup; 4] = [
         name: "drawn",
         cases: drawn,
         kind: Kind::SingleLowest,
-        least: LeastTurned {
+        least: Turns {
             several: 100,
             reordered: 70,
             joined: 40,
@@ -46,7 +47,7 @@ pub const TURNED: [TurnedGroup; 4] = [
         name: "several lowest bins",
         cases: several_lowest,
         kind: Kind::SeveralLowest,
-        least: LeastTurned {
+        least: Turns {
             astray: 400,
             parted: 75,
             ..NOTHING
@@ -60,7 +61,7 @@ pub const TURNED: [TurnedGroup; 4] = [
     },
 ];
 
-const NOTHING: LeastTurned = LeastTurned {
+const NOTHING: Turns = Turns {
     several: 0,
     reordered: 0,
     joined: 0,

@@ -25,10 +25,9 @@ pub enum Kind {
     SeveralLowest,
 }
 
-/// Rings by what turning shows on them.
+/// Rings by what turning shows on them: how many were found, or how many there have to be.
 #[derive(Default)]
-pub struct TurnTally {
-    pub rings: u64,
+pub struct Turns {
     /// Of several modes.
     pub several: u64,
     /// Whose list begins elsewhere after some turn: not with its first separator, turned.
@@ -41,14 +40,10 @@ pub struct TurnTally {
     pub parted: u64,
 }
 
-/// The least numbers of a group, each in thousandths of its rings.
 #[derive(Default)]
-pub struct LeastTurned {
-    pub several: u64,
-    pub reordered: u64,
-    pub joined: u64,
-    pub astray: u64,
-    pub parted: u64,
+pub struct TurnTally {
+    pub rings: u64,
+    pub found: Turns,
 }
 
 /// What the turns of a ring show, as it is counted.
@@ -148,6 +143,7 @@ impl Turn<'_> {
         };
         let (due, found) = self.starts(here, there);
         same(|| what("separators by mode"), due, found)?;
+        // The modes as they are numbered, turned, against those that can be read off the list.
         let due = turned(&mode_of_each(here, self.bins), self.by);
         let found = listed_modes(&self.there.separators, self.bins);
         same(
@@ -202,38 +198,42 @@ pub fn listed_modes(list: &[usize], bins: usize) -> Vec<Option<usize>> {
 
 impl TurnTally {
     fn count(&mut self, ring: &Agreed, shown: &Shown) {
-        self.rings += 1;
-        self.several += u64::from(ring.separators.len() > 1);
         let traits = ring.ring.as_ref().map(|ring| ring.traits);
-        self.joined += u64::from(traits.unwrap_or_default().past_the_opening > 0);
-        self.reordered += u64::from(shown.reordered);
-        self.astray += u64::from(shown.astray);
-        self.parted += u64::from(shown.parted);
+        let found = &mut self.found;
+        self.rings += 1;
+        found.several += u64::from(ring.separators.len() > 1);
+        found.joined += u64::from(traits.unwrap_or_default().past_the_opening > 0);
+        found.reordered += u64::from(shown.reordered);
+        found.astray += u64::from(shown.astray);
+        found.parted += u64::from(shown.parted);
     }
 
     pub fn told(&self) -> String {
-        format!(
-            "{} rings, each with its turns: {} of several modes, {} whose list comes to begin elsewhere, {} joined past the opening, \
-            {} that do not turn along, {} with modes of other contents",
-            self.rings, self.several, self.reordered, self.joined, self.astray, self.parted
-        )
+        let told = |(what, found)| format!("{found} {what}");
+        let found = self.found.named().map(told).join(", ");
+        format!("{} rings, each with its turns: {found}", self.rings)
+    }
+
+    /// The least numbers are in thousandths of the rings.
+    pub fn check(&self, least: &Turns) -> Result<(), Failure> {
+        let found = self.found.named().into_iter();
+        let numbers: Vec<(&str, u64, u64)> = found
+            .zip(least.named())
+            .map(|((what, found), (_, least))| (what, least, found))
+            .collect();
+        enough(self.rings, &numbers)
     }
 }
 
-impl LeastTurned {
-    pub fn check(&self, tally: &TurnTally) -> Result<(), Failure> {
-        let numbers = [
-            ("of several modes", self.several, tally.several),
-            (
-                "whose list comes to begin elsewhere",
-                self.reordered,
-                tally.reordered,
-            ),
-            ("joined past the opening", self.joined, tally.joined),
-            ("that do not turn along", self.astray, tally.astray),
-            ("with modes of other contents", self.parted, tally.parted),
-        ];
-        enough(tally.rings, &numbers)
+impl Turns {
+    fn named(&self) -> [(&'static str, u64); 5] {
+        [
+            ("of several modes", self.several),
+            ("whose list comes to begin elsewhere", self.reordered),
+            ("joined past the opening", self.joined),
+            ("that do not turn along", self.astray),
+            ("with modes of other contents", self.parted),
+        ]
     }
 }
 
@@ -336,8 +336,8 @@ mod tests {
             };
             assert!(kind.compare(&case(ring, 0), &mut tally).is_ok());
         }
-        let found = tally.turned;
-        assert_eq!((found.rings, found.several, found.reordered), (5, 2, 4));
+        let TurnTally { rings, found } = tally.turned;
+        assert_eq!((rings, found.several, found.reordered), (5, 2, 4));
         assert_eq!((found.joined, found.astray, found.parted), (1, 3, 1));
     }
 
@@ -351,7 +351,7 @@ mod tests {
         assert_eq!(modes(&[], 2), [None; 2]);
     }
 
-    const LEAST: LeastTurned = LeastTurned {
+    const LEAST: Turns = Turns {
         several: 500,
         reordered: 200,
         joined: 100,
@@ -362,17 +362,19 @@ mod tests {
     fn tally(several: u64, reordered: u64, joined: u64, astray: u64, parted: u64) -> TurnTally {
         TurnTally {
             rings: 1000,
-            several,
-            reordered,
-            joined,
-            astray,
-            parted,
+            found: Turns {
+                several,
+                reordered,
+                joined,
+                astray,
+                parted,
+            },
         }
     }
 
     #[test]
     fn each_number_can_be_too_small() {
-        assert!(LEAST.check(&tally(500, 200, 100, 20, 10)).is_ok());
+        assert!(tally(500, 200, 100, 20, 10).check(&LEAST).is_ok());
         for too_few in [
             tally(499, 200, 100, 20, 10),
             tally(500, 199, 100, 20, 10),
@@ -380,12 +382,12 @@ mod tests {
             tally(500, 200, 100, 19, 10),
             tally(500, 200, 100, 20, 9),
         ] {
-            assert!(matches!(LEAST.check(&too_few), Err(Failure::TooFew(_))));
+            assert!(matches!(too_few.check(&LEAST), Err(Failure::TooFew(_))));
         }
         let few = TurnTally {
             rings: FEWEST_JUDGED - 1,
             ..TurnTally::default()
         };
-        assert!(LEAST.check(&few).is_ok());
+        assert!(few.check(&LEAST).is_ok());
     }
 }
