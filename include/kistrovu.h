@@ -55,8 +55,8 @@ extern "C" {
  * another release. Major: a declaration, a number or a figure's meaning changed. Minor: something was added. */
 
 #define KISTROVU_VERSION_MAJOR 5
-#define KISTROVU_VERSION_MINOR 1
-#define KISTROVU_VERSION_PATCH 1
+#define KISTROVU_VERSION_MINOR 2
+#define KISTROVU_VERSION_PATCH 0
 #define KISTROVU_VERSION (10000 * KISTROVU_VERSION_MAJOR + 100 * KISTROVU_VERSION_MINOR + KISTROVU_VERSION_PATCH)
 
 uint32_t kistrovu_version(void);
@@ -73,12 +73,14 @@ enum kistrovu_ground {
     KISTROVU_SUM = 7,          /* the counts of the histogram add up to more than 65,536 */
     KISTROVU_CLOSENESS = 8,    /* the closeness is below -10 or above 20 */
     KISTROVU_LABELS = 9,       /* the label buffer does not have one place for each pixel */
-    KISTROVU_SEPARATORS = 10,  /* the separator list is shorter than the histogram */
-    KISTROVU_ENTRIES = 11      /* the card would have more than 255 entries */
+    KISTROVU_SEPARATORS = 10,  /* the separator list, or the list to write a log in, has fewer places than the histogram has bins */
+    KISTROVU_ENTRIES = 11,     /* the card would have more than 255 entries */
+    KISTROVU_LOG = 20          /* the log is not the one that the method writes for the line */
 };
 
 /* The limits. A swatch's text has 13 bytes for its header and 13 for each pixel. */
 #define KISTROVU_MOST_BINS 256
+#define KISTROVU_RECORD_NUMBERS 4
 #define KISTROVU_LEAST_CLOSENESS (-10)
 #define KISTROVU_MOST_CLOSENESS 20
 #define KISTROVU_MOST_PIXELS 65536
@@ -170,6 +172,51 @@ struct kistrovu_modes_answer kistrovu_line_modes(const uint32_t *histogram, size
                                                  uint32_t *separators, size_t places);
 struct kistrovu_modes_answer kistrovu_ring_modes(const uint32_t *histogram, size_t bins, int32_t closeness,
                                                  uint32_t *separators, size_t places);
+
+/* ---- the log of a line's joins. Grounds 6, 7, 8, 10
+ * A line begins as segments, a segment for each hump, and runs of neighbours are joined until no run can be: what is left are
+ * its modes. The log has a record of four numbers for each join, in the order in which the joins are made. Segments are
+ * numbered from 0 as they stand just before the join, so after a join the segments behind it have lower numbers.
+ *
+ * The records are in the first places of the log, and the answer says how many joins there are; every number behind them
+ * stays as it was. A place of a log is four numbers, and the log needs as many places as the histogram has bins. Its length
+ * counts numbers: 4 * bins or more. It may be lent as an array of records:
+ *
+ *     const uint32_t histogram[] = {0, 1, 0, 1, 0};
+ *     struct kistrovu_join_record log[5];
+ *     struct kistrovu_log_answer answer =
+ *         kistrovu_join_log(histogram, 5, 0, (int64_t *)log, KISTROVU_RECORD_NUMBERS * 5);
+ *     for (uint32_t i = 0; i < answer.joins; i++)
+ *         printf("%d segments from number %d on, by the %s\n", (int)log[i].length, (int)log[i].first,
+ *                log[i].rise ? "rise" : "fall");
+ *
+ * prints `2 segments from number 0 on, by the fall`. */
+
+struct kistrovu_join_record {
+    int64_t first;  /* the number of the first segment that is joined */
+    int64_t length; /* how many segments are joined, 2 or more */
+    int64_t rise;   /* 0 if they are joined by the fall, 1 if by the rise */
+    int64_t cost;   /* in the units of a verdict's cost; below 0 */
+};
+
+struct kistrovu_log_answer { /* 8 bytes */
+    uint32_t number;
+    uint32_t joins;
+};
+
+struct kistrovu_log_answer kistrovu_join_log(const uint32_t *histogram, size_t bins, int32_t closeness, int64_t *log,
+                                             size_t numbers);
+
+/* ---- the modes of a line, by a log of its joins. Grounds 6, 7, 8, 10, 20
+ * The log may come from anywhere and hold anything; it is only read. It is followed record by record: each must be that of
+ * the join that comes next, which is then made, and when no join comes next the log must be at its end. So the call is served
+ * for one log alone, the one that kistrovu_join_log writes for this histogram at this closeness, and then lists the
+ * separators as kistrovu_line_modes does. Any other log gets 20: one with a record or a number more or less, with another
+ * cost, or with a number that is neither 0 nor 1 where it says rise or fall. The length of the log counts numbers, 4 for each
+ * join. It may be 0: a line whose segments are all modes has an empty log. */
+
+struct kistrovu_modes_answer kistrovu_replay(const uint32_t *histogram, size_t bins, int32_t closeness, const int64_t *log,
+                                             size_t numbers, uint32_t *separators, size_t places);
 
 /* ---- the card of an image. Grounds 4, 5, 8, 9, 11
  * An image has three bytes for each pixel: R, G, B. A pixel's label is one byte, the number of its entry, counted from 0;

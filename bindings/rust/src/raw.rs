@@ -13,6 +13,8 @@
 
 /// The most bins of a histogram, and so the places of a fit.
 pub const MOST_BINS: usize = 256;
+/// The numbers of a record in a log of joins, and so of a place of a log.
+pub const RECORD_NUMBERS: usize = 4;
 /// The most pixels of an image, and the most that a histogram's counts may sum to.
 pub const MOST_PIXELS: usize = 65_536;
 /// The least closeness.
@@ -80,14 +82,38 @@ pub struct VerdictAnswer {
     pub verdict: Verdict,
 }
 
-/// What [`kistrovu_line_modes`] and [`kistrovu_ring_modes`] hand back.
+/// What [`kistrovu_line_modes`], [`kistrovu_ring_modes`] and [`kistrovu_replay`] hand back.
 #[repr(C)]
 #[derive(Clone, Copy, Debug, PartialEq, Eq)]
 pub struct ModesAnswer {
-    /// 0, 6, 7, 8 or 10.
+    /// 0, 6, 7, 8 or 10; for a replay also 20.
     pub number: u32,
     /// How many separators are in the first places of the list.
     pub separators: u32,
+}
+
+/// A join as a log has it: four numbers in a row.
+#[repr(C)]
+#[derive(Clone, Copy, Debug, PartialEq, Eq)]
+pub struct JoinRecord {
+    /// The number of the first segment that is joined, as the segments are numbered just before the join.
+    pub first: i64,
+    /// How many segments are joined, 2 or more.
+    pub length: i64,
+    /// 0 if they are joined by the fall, 1 if by the rise.
+    pub rise: i64,
+    /// The cost in units of 1/67,108,864 of a bit; below 0.
+    pub cost: i64,
+}
+
+/// What [`kistrovu_join_log`] hands back.
+#[repr(C)]
+#[derive(Clone, Copy, Debug, PartialEq, Eq)]
+pub struct LogAnswer {
+    /// 0, 6, 7, 8 or 10.
+    pub number: u32,
+    /// How many joins there are; their records are in the first places of the log.
+    pub joins: u32,
 }
 
 /// An entry of a card.
@@ -142,6 +168,8 @@ const _: () = assert!(size_of::<MeasuresAnswer>() == 8);
 const _: () = assert!(size_of::<FitAnswer>() == 4 + 8 * MOST_BINS);
 const _: () = assert!(size_of::<VerdictAnswer>() == 24);
 const _: () = assert!(size_of::<ModesAnswer>() == 8);
+const _: () = assert!(size_of::<JoinRecord>() == 8 * RECORD_NUMBERS);
+const _: () = assert!(size_of::<LogAnswer>() == 8);
 const _: () = assert!(size_of::<Entry>() == 12);
 const _: () = assert!(size_of::<Card>() == 8 + 12 * MOST_ENTRIES);
 const _: () = assert!(size_of::<Printed>() == (8 + MOST_PRINTED).next_multiple_of(4));
@@ -179,6 +207,27 @@ extern "C" {
         histogram: *const u32,
         bins: usize,
         closeness: i32,
+        separators: *mut u32,
+        places: usize,
+    ) -> ModesAnswer;
+
+    /// The joins of a line of bins, in turn: the record of each, in the first places of the log. Grounds 6, 7, 8, 10.
+    pub fn kistrovu_join_log(
+        histogram: *const u32,
+        bins: usize,
+        closeness: i32,
+        log: *mut i64,
+        numbers: usize,
+    ) -> LogAnswer;
+
+    /// The modes of a line of bins by a log of its joins, which is only read: its separators, rising, in the first places
+    /// of the list. Grounds 6, 7, 8, 10, 20.
+    pub fn kistrovu_replay(
+        histogram: *const u32,
+        bins: usize,
+        closeness: i32,
+        log: *const i64,
+        numbers: usize,
         separators: *mut u32,
         places: usize,
     ) -> ModesAnswer;

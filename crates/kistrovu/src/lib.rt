@@ -37,7 +37,7 @@ ghost use Rattle.kistrovu.specs.Facts.{IfServed, SoundAnswer};
 mod printing;
 
 // 10,000 · major + 100 · minor + patch. Its source is the file VERSION; tools/version writes it here.
-const VERSION: u32 = 50101;
+const VERSION: u32 = 50200;
 
 // The answers of the public calls. Each has the call's number: 0 if the call is served, otherwise the ground on which it is turned
 // down. Every other figure is then zero.
