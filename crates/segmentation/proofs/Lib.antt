@@ -22,3 +22,4 @@ pub mod RingModes
 pub mod Filled
 pub mod Loose
 pub mod HeldStarts
+pub mod Stepping

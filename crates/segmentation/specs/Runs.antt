@@ -15,13 +15,20 @@ use Rattle.pooling.specs.Limits.{Small}
 use Rattle.segmentation.specs.declared.Found.{Found}
 use Rattle.segmentation.specs.Segments.{Segment, segmentAt, binAt}
 use Rattle.segmentation.specs.Joining.{Reader, Join, joinOf, lastStart}
-use Rattle.segmentation.specs.Finished.{RingCut}
+use Rattle.segmentation.specs.Held.{segmentsHeld}
+use Rattle.segmentation.specs.Finished.{Cut, RingCut}
 
 -- the sheet of logarithms, a setting in range, and two lists with room for so many segments
 pub record Prepared (sheet : List ℕ) (setting : ℕ) (separators peaks : List ℕ) (held : ℕ) : Type 0 where
   pub logs : sheet ≡ logSheet
   pub close : setting ≤ lastSetting
   pub places : (held < length separators) × (held ≤ length peaks)
+
+-- n segments that cut a line, with what a search among them needs
+pub record OnLine (sheet : List ℕ) (setting : ℕ) (h separators peaks : List ℕ) (n : ℕ) : Type 0 where
+  pub prepared : Prepared sheet setting separators peaks n
+  pub small : Small h
+  pub cut : Cut (length h) (segmentsHeld separators peaks 0 n)
 
 -- the stretch from bin i to bin j lies within h, and is small enough to be tested
 pub record Within (h : List ℕ) (i j : ℕ) : Type 0 where

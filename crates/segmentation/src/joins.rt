@@ -1,4 +1,5 @@
 // Joining a run of segments in place, and joining until no run is joinable.
+use crate::Found;
 use crate::Join;
 use crate::Search;
 use crate::first::first_segments;
@@ -9,12 +10,11 @@ ghost use mathlib.Core.Path.{_≡_};
 ghost use Prim.Native.Nat.{_+_, _-_, _≤_, _<_};
 ghost use lib.ListN.{length, drop};
 ghost use lib.Seq.{paste};
-ghost use Rattle.logarithm.specs.Sheet.{logSheet};
 ghost use Rattle.verdict.specs.Settings.{lastSetting, closenessOf};
 ghost use Rattle.pooling.specs.Limits.{Small};
-ghost use Rattle.segmentation.specs.Joining.{lineReader, join, lineJoins, joinAll, lineModes};
-ghost use Rattle.segmentation.specs.Held.{segmentsHeld};
-ghost use Rattle.segmentation.specs.Finished.{Cut};
+ghost use Rattle.segmentation.specs.Joining.{lineReader, join, nextJoin, lineJoins, joinAll, lineModes};
+ghost use Rattle.segmentation.specs.Held.{segmentsHeld, joinFound};
+ghost use Rattle.segmentation.specs.Runs.{OnLine};
 
 // Moves the members from place `from` up to, but not including, `end` down to the places from `to` on.
 pub fn shift(a: &mut [u32], to: usize, from: usize, end: usize)
@@ -44,7 +44,27 @@ pub fn apply(separators: &mut [u32], peaks: &mut [u32], n: usize, j: Join) -> us
     n - fewer
 }
 
-// Joins the segments of a line until no run is joinable. Returns how many there are then.
+// The join that comes next among the n segments of a line, if there is one. With `apply`, which makes it, this is one step of joining.
+pub fn next_on_line(
+    sheet: &[u32; SHEET_SIZE],
+    h: &[u32],
+    setting: u32,
+    separators: &[u32],
+    peaks: &[u32],
+    n: usize,
+) -> Found
+    requires { ⌜ OnLine (now sheet) setting (now h) (now separators) (now peaks) n ⌝ }
+    ensures { λ r. ⌜ joinFound (r .found) (r .join) ≡ nextJoin (closenessOf setting) (lineReader (now (h .entry))) (segmentsHeld (now (separators .entry)) (now (peaks .entry)) 0 n) ⌝ }
+{
+    let all = Search {
+        count: n,
+        round: false,
+        known: 0,
+    };
+    next_join(sheet, h, setting, separators, peaks, all)
+}
+
+// Joins the segments of a line, step by step, until no run is joinable. Returns how many there are then.
 pub fn join_all(
     sheet: &[u32; SHEET_SIZE],
     h: &[u32],
@@ -53,22 +73,14 @@ pub fn join_all(
     peaks: &mut [u32],
     n: usize,
 ) -> usize
-    requires { ⌜ Small (now h) ⌝ }
-    requires { ⌜ (setting ≤ lastSetting) × (now sheet ≡ logSheet) ⌝ }
-    requires { ⌜ (n < length (now separators)) × (n ≤ length (now peaks)) ⌝ }
-    requires { ⌜ Cut (length (now h)) (segmentsHeld (now separators) (now peaks) 0 n) ⌝ }
+    requires { ⌜ OnLine (now sheet) setting (now h) (now separators) (now peaks) n ⌝ }
     ensures { λ r. ⌜ (segmentsHeld (now (separators .exit)) (now (peaks .exit)) 0 r
         ≡ joinAll n (lineJoins (closenessOf setting) (lineReader (now (h .entry)))) (segmentsHeld (now (separators .entry)) (now (peaks .entry)) 0 n))
         × (r ≤ n) ⌝ }
 {
     let mut left = n;
     loop {
-        let all = Search {
-            count: left,
-            round: false,
-            known: 0,
-        };
-        let next = next_join(sheet, h, setting, separators, peaks, all);
+        let next = next_on_line(sheet, h, setting, separators, peaks, left);
         if !next.found {
             return left;
         }

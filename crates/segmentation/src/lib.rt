@@ -7,6 +7,7 @@ mod runs;
 pub use first::first_segments;
 pub use joins::apply;
 pub use joins::join_all;
+pub use joins::next_on_line;
 pub use joins::shift;
 pub use lines::copy_first;
 pub use lines::line_separators;

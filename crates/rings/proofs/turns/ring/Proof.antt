@@ -13,15 +13,14 @@ use Rattle.segmentation.specs.Joining.{lineReader, joinAll, lineModes}
 use Rattle.segmentation.specs.Around.{ringJoins}
 use Rattle.segmentation.specs.Ring.{opened, fromOpening, twoTurns, roundReader}
 use Rattle.segmentation.specs.Held.{segmentsHeld}
-use Rattle.segmentation.specs.Finished.{Cut}
 use Rattle.segmentation.specs.Runs.{OnRing, NoneAmong}
-use Rattle.segmentation.proofs.FirstCut.{first-cut}
 use Rattle.segmentation.proofs.Finishing.{modes-cut}
 use Rattle.segmentation.proofs.Holding.{held-length}
 use Rattle.segmentation.proofs.Settled.{one-kept}
 use Rattle.segmentation.proofs.Applied.{line-held, ring-held, cut-count}
 use Rattle.segmentation.proofs.RingPlaces.{ring-length, ring-small}
 use Rattle.segmentation.proofs.TwoTurns.{opening-length, opening-total, opened-turns}
+use Rattle.segmentation.proofs.Stepping.{first-on-line}
 use Rattle.segmentation.proofs.RingModes.{line-on-ring, line-none, ring-one-kept}
 use Rattle.rings.proofs.turns.ring.Statement.{statement}
 use Rattle.rings.proofs.turns.ring.Tie as tie
@@ -100,13 +99,9 @@ join-all-requires c κs =
     let f = first sh in
     let s = entry f in
     let p = s .pre in
-    let k = f .first-segments .kept in
-    let cut = subst (Cut (length (opened (bins s)))) (sym (held f)) (first-cut (opened (bins s)) (two s)) in
-    let few = cut-count (first-cut (opened (bins s)) (two s)) in
-    rw (line-is s) (
-      ring-small (bins s) (p .0 .0) (p .0 .1) (p .0 .2),
-      ((p .1 .0, sh .copied-sheet .ensures), ((omega (arith, count f, long s, p .0, p .1, k), omega (arith, count f, long s, p .0, p .1, k)), cut)),
-    )
+    let g = f .first-segments in
+    rw (line-is s) (first-on-line _ (s .args .setting) (opened (bins s)) (g .last .1 .0) (g .last .1 .1 .0) (g .result)
+    (sh .copied-sheet .ensures) (p .1 .0) (ring-small (bins s) (p .0 .0) (p .0 .1) (p .0 .2)) (two s) (omega (arith, long s, p .0, p .1, g .kept)) (omega (arith, long s, p .0, p .1, g .kept)) (held f))
 
 -- ---- the modes of the line
 line-modes : (c : tie.After-join-all)

@@ -1,5 +1,5 @@
 -- `line` gives the modes of a line. Assumes nothing.
-use mathlib.Core.Path.{_≡_, sym, ap, subst, _∙_}
+use mathlib.Core.Path.{_≡_, sym, ap, _∙_}
 use borrow.Author.Needs.{needs}
 use native.Mathlib.Omega.{arith}
 use Prim.Native.Nat.{_≤_}
@@ -7,12 +7,11 @@ use lib.ListN.{length}
 use Rattle.segmentation.specs.Segments.{firstSegments}
 use Rattle.segmentation.specs.Joining.{lineReader, lineJoins, joinAll, lineModes}
 use Rattle.segmentation.specs.Held.{segmentsHeld}
-use Rattle.segmentation.specs.Finished.{Cut}
 use Rattle.verdict.specs.Settings.{closenessOf}
-use Rattle.segmentation.proofs.FirstCut.{first-cut}
 use Rattle.segmentation.proofs.Holding.{held-length}
-use Rattle.segmentation.proofs.Applied.{line-held, cut-count}
+use Rattle.segmentation.proofs.Applied.{line-held}
 use Rattle.segmentation.proofs.Settled.{one-kept}
+use Rattle.segmentation.proofs.Stepping.{first-on-line}
 use Rattle.segmentation.proofs.joins.line.Statement.{statement}
 use Rattle.segmentation.proofs.joins.line.Tie as tie
 
@@ -58,11 +57,8 @@ join-all-requires c κs =
     let at = found (c .before .before .before .before .before) in
     let s = entry at in
     let f = at .first-segments in
-    let cut : Cut (length (s .args .h .now)) (segmentsHeld (f .last .1 .0) (f .last .1 .1 .0) 0 (f .result)) =
-    subst (Cut (length (s .args .h .now))) (sym (f .ensures)) (first-cut (s .args .h .now) (s .pre .1 .0 .0)) in
-    let count = cut-count cut in
-    let held = held-length (f .last .1 .0) (f .last .1 .1 .0) 0 (f .result) in
-    (s .pre .0, ((s .pre .1 .0 .1, c .before .before .before .copied-sheet .ensures), ((omega (arith, s .pre, f .kept), omega (arith, s .pre, f .kept)), cut)))
+    first-on-line _ (s .args .setting) (s .args .h .now) (f .last .1 .0) (f .last .1 .1 .0) (f .result)
+    (c .before .before .before .copied-sheet .ensures) (s .pre .1 .0 .1) (s .pre .0) (s .pre .1 .0 .0) (omega (arith, s .pre, f .kept)) (omega (arith, s .pre, f .kept)) (f .ensures)
 
 same-length-3 : tie.Need-same-length-3
 same-length-3 c = search needs
