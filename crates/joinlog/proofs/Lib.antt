@@ -1,0 +1,5 @@
+mod Numbers
+mod Made
+mod Logs
+mod Lines
+pub mod Always

@@ -1,0 +1,2 @@
+pub mod JoinLog
+pub mod Records
