@@ -1,9 +1,10 @@
 -- What a call's number says: if a call is served, no ground holds; a later ground is tested only if none of the earlier ones holds. Assumes nothing.
-use Prim.Native.Nat.{ℕ, _≤_, _<_}
-use mathlib.Core.Path.{_≡_, refl, sym, _∙_}
-use mathlib.Core.Bool.{Bool, true, false}
+use Prim.Native.Nat.{ℕ, _/_, _≤_, _<_}
+use mathlib.Core.Path.{_≡_, refl, sym, ap, _∙_}
+use mathlib.Core.Bool.{Bool, true, false, not}
 use mathlib.Core.List.{List, [], _∷_, _++_}
 use lib.Dec.{ltb}
+use lib.IntN.{ℤ}
 use lib.ListN.{length}
 use lib.Signed.{ltZ}
 use native.Mathlib.Omega.{arith}
@@ -14,7 +15,8 @@ use Rattle.lists.proofs.Signed.{nlt-le-ℤ}
 use Rattle.lists.specs.Lists.{total}
 use Rattle.verdict.specs.Test.{Closeness, leastCloseness, mostCloseness}
 use Rattle.verdict.specs.Settings.{Offered}
-use Rattle.grounds.specs.Grounds.{Ground, firstGround, badLength, largeSum, badCloseness, fewPlaces, fitNumber, verdictNumber, modesNumber}
+use Rattle.joinlog.specs.JoinLog.{recordNumbers, lineLog, sameNumbers}
+use Rattle.grounds.specs.Grounds.{Ground, firstGround, badLength, largeSum, badCloseness, fewPlaces, otherLog, fitNumber, verdictNumber, modesNumber, logNumber, replayNumber}
 
 -- ---- grounds in sequence
 pub ground-holds : (g : Ground) (gs : List Ground) → g .holds ≡ true → firstGround (g ∷ gs) ≡ g .number
@@ -106,3 +108,38 @@ module _ (e : Closeness) (h : List ℕ) (places : ℕ) where
       go : Dec (verdictNumber e h ≡ 0) → (verdictNumber e h ≡ 0) × (length h ≤ places)
       go (yes y) = (y, ltb-false _ _ (ground-none (fewPlaces h places) [] (omega arith) (sym (modes-asked y) ∙ z) .0))
       go (no n) = absurd (n (sym (modes-turned-down n) ∙ z))
+
+-- ---- a log of joins
+module _ (e : Closeness) (h : List ℕ) (numbers : ℕ) where
+  -- its grounds are those of modes, for as many places as the log has
+  pub log-is-modes : logNumber e h numbers ≡ modesNumber e h (numbers / recordNumbers)
+  unfolding logNumber modesNumber
+  log-is-modes = refl
+
+module _ (e : Closeness) (h : List ℕ) (log : List ℤ) (places : ℕ) where
+  abbrev earlier : List Ground
+  earlier = badLength h ∷ largeSum h ∷ badCloseness e ∷ fewPlaces h places ∷ []
+
+  pub replay-turned-down : ¬ (modesNumber e h places ≡ 0) → replayNumber e h log places ≡ modesNumber e h places
+  unfolding modesNumber replayNumber
+  replay-turned-down n = grounds-turned-down earlier (otherLog e h log ∷ []) n
+
+  pub replay-asked : modesNumber e h places ≡ 0 → replayNumber e h log places ≡ firstGround (otherLog e h log ∷ [])
+  unfolding modesNumber replayNumber
+  replay-asked z = grounds-served earlier (otherLog e h log ∷ []) (omega arith, (omega arith, (omega arith, (omega arith, tt)))) z
+
+  -- where no earlier ground holds: the line's own log is served, and any other gets 20
+  pub replay-same : modesNumber e h places ≡ 0 → sameNumbers log (lineLog e h) ≡ true → replayNumber e h log places ≡ 0
+  unfolding firstGround
+  replay-same z t = replay-asked z ∙ ground-passes (otherLog e h log) [] (ap not t)
+
+  pub replay-other : modesNumber e h places ≡ 0 → sameNumbers log (lineLog e h) ≡ false → replayNumber e h log places ≡ 20
+  replay-other z f = replay-asked z ∙ ground-holds (otherLog e h log) [] (ap not f)
+
+  pub replay-served : replayNumber e h log places ≡ 0 → (modesNumber e h places ≡ 0) × (sameNumbers log (lineLog e h) ≡ true)
+  replay-served z = go (ℕ-discrete (modesNumber e h places) 0) (sameNumbers log (lineLog e h)) refl
+    where
+      go : Dec (modesNumber e h places ≡ 0) → (t : Bool) → sameNumbers log (lineLog e h) ≡ t → (modesNumber e h places ≡ 0) × (t ≡ true)
+      go (no n) t q = absurd (n (sym (replay-turned-down n) ∙ z))
+      go (yes y) true q = (y, refl)
+      go (yes y) false q = absurd (omega (arith, replay-other y q, z))

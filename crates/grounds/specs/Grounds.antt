@@ -1,13 +1,14 @@
--- The grounds for turning a call down, rules G1 to G11, and which of them concern a call (A2). A call answers with the number of the first that holds, or 0. Assumes nothing.
+-- The grounds for turning a call down, rules G1 to G11 and G20, and which of them concern a call (A2). A call answers with the number of the first that holds, or 0. Assumes nothing.
 use Prim.Native.Nat.{ℕ, _/_, _%_}
 use mathlib.Core.Bool.{Bool, cond, not, _||_}
 use mathlib.Core.List.{List, [], _∷_}
 use lib.Dec.{ltb, eqb}
-use lib.IntN.{pos}
+use lib.IntN.{ℤ, pos}
 use lib.ListN.{length}
 use lib.Signed.{ltZ}
 use Rattle.lists.specs.Lists.{total, missing}
 use Rattle.verdict.specs.Test.{Closeness, leastCloseness, mostCloseness}
+use Rattle.joinlog.specs.JoinLog.{recordNumbers, lineLog, sameNumbers}
 use Rattle.palette.specs.Cards.{entries, mostEntries, pixelsOf}
 use Rattle.palette.specs.Sound.{mostPixels}
 use Rattle.swatch.specs.Input.{headerOf, sizeOf, pixelBytes, bytesOf}
@@ -58,13 +59,17 @@ badCloseness e = record { number = 8; holds = ltZ e leastCloseness || ltZ mostCl
 abbrev pub badLabels : List ℕ → ℕ → Ground
 badLabels bytes places = record { number = 9; holds = not (eqb places (length bytes / 3)) }
 
--- G10: too little room for separators
+-- G10: fewer places than bins, for separators or for records
 abbrev pub fewPlaces : List ℕ → ℕ → Ground
 fewPlaces h places = record { number = 10; holds = ltb places (length h) }
 
 -- G11: too many entries
 abbrev pub manyEntries : Closeness → List ℕ → Ground
 manyEntries e bytes = record { number = 11; holds = ltb mostEntries (length (entries e (pixelsOf bytes))) }
+
+-- G20: another log than that of the line
+abbrev pub otherLog : Closeness → List ℕ → List ℤ → Ground
+otherLog e h log = record { number = 20; holds = not (sameNumbers log (lineLog e h)) }
 
 -- A2: the number of each call, from the grounds that concern it, in their order. The version, the measures and the line of a ground have none
 unfoldable pub fitNumber : List ℕ → ℕ
@@ -76,6 +81,14 @@ verdictNumber e h = firstGround (badLength h ∷ largeSum h ∷ badCloseness e �
 -- the number of a modes call, for a line and for a ring
 unfoldable pub modesNumber : Closeness → List ℕ → ℕ → ℕ
 modesNumber e h places = firstGround (badLength h ∷ largeSum h ∷ badCloseness e ∷ fewPlaces h places ∷ [])
+
+-- the number of a log call. A place of the log is four numbers (G10); what is left over at the end is no place
+unfoldable pub logNumber : Closeness → List ℕ → (numbers : ℕ) → ℕ
+logNumber e h numbers = firstGround (badLength h ∷ largeSum h ∷ badCloseness e ∷ fewPlaces h (numbers / recordNumbers) ∷ [])
+
+-- the number of a replay: its places are those of the separator list, and its log may have any length
+unfoldable pub replayNumber : Closeness → List ℕ → List ℤ → (places : ℕ) → ℕ
+replayNumber e h log places = firstGround (badLength h ∷ largeSum h ∷ badCloseness e ∷ fewPlaces h places ∷ otherLog e h log ∷ [])
 
 -- the number of a card call: as far as it is known before the entries are found, and with them
 unfoldable pub askedNumber : Closeness → List ℕ → ℕ → ℕ

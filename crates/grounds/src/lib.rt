@@ -1,4 +1,5 @@
 // The number of a call: that of the first ground that holds, of those that concern the call, or 0 if none holds.
+use joinlog::RECORD_NUMBERS;
 use palette::MOST_PIXELS;
 use verdict::LEAST_CLOSENESS;
 use verdict::MOST_CLOSENESS;
@@ -6,7 +7,7 @@ ghost use mathlib.Core.Path.{_≡_};
 ghost use Prim.Native.Nat.{_≤_};
 ghost use lib.ListN.{length};
 ghost use Rattle.lists.specs.Lists.{total};
-ghost use Rattle.grounds.specs.Grounds.{badCloseness, fitNumber, verdictNumber, modesNumber, askedNumber};
+ghost use Rattle.grounds.specs.Grounds.{badCloseness, fitNumber, verdictNumber, modesNumber, logNumber, askedNumber};
 
 // The sum of the counts. There are at most 256 of them, so it cannot overflow.
 fn sum(h: &[u32]) -> u64
@@ -68,6 +69,13 @@ pub fn modes_number(h: &[u32], closeness: i32, places: usize) -> u32
         return 10;
     }
     0
+}
+
+// The number of a call that writes a log into a list of so many numbers.
+pub fn log_number(h: &[u32], closeness: i32, numbers: usize) -> u32
+    ensures { λ r. ⌜ r ≡ logNumber closeness (now (h .entry)) numbers ⌝ }
+{
+    modes_number(h, closeness, numbers / RECORD_NUMBERS)
 }
 
 // The number of a card call, as far as it is known before the entries are found.

@@ -1,11 +1,10 @@
 -- Numbers of a log: whether two are the same, four in a row read and written, and a log's beginning. Assumes nothing.
-use Prim.Native.Nat.{ℕ, zero, suc, _+_, _-_, _≤_, _<_}
+use Prim.Native.Nat.{ℕ, suc, _+_, _≤_, _<_}
 use mathlib.Core.Path.{_≡_, refl, sym, ap, _∙_}
-use mathlib.Core.Bool.{Bool, true, false, not, _&&_, false≢true}
+use mathlib.Core.Bool.{Bool, true, false, _&&_, false≢true}
 use mathlib.Core.List.{List, [], _∷_, _++_, append-assoc}
 use native.Mathlib.Omega.{arith}
-use native.Mathlib.Numerals.{add-one}
-use borrow.Author.Tests.{eqb-true, eqb-false, eq-eqb, ne-eqb}
+use borrow.Author.Tests.{eqb-true, eq-eqb, ne-eqb}
 use lib.Dec.{eqb}
 use lib.IntN.{ℤ, pos, negsuc, ℤ-discrete}
 use lib.ListN.{length, take, drop, getD, set, length-append, take-append-drop}
@@ -19,15 +18,6 @@ use Rattle.lists.proofs.Cases.{by-order}
 use Rattle.lists.proofs.Connectives.{both-true}
 use Rattle.joinlog.specs.JoinLog.{JoinRecord, numbersOf, sameNumber, sameNumbers}
 use Rattle.joinlog.specs.Records.{startsWith, sameRecord}
-
--- ---- a flag, by the test of its opposite
-pub was-false : (t : Bool) → not t ≡ true → t ≡ false
-was-false true e = absurd (false≢true e)
-was-false false e = refl
-
-pub was-true : (t : Bool) → not t ≡ false → t ≡ true
-was-true true e = refl
-was-true false e = absurd (false≢true (sym e))
 
 -- ---- one number
 pub same-self : (x : ℤ) → sameNumber x x ≡ true

@@ -1,7 +1,6 @@
 -- What the card call answers and leaves, by its number; making a card twice gives the same card. Assumes nothing.
 use Prim.Native.Nat.{ℕ, _*_, _/_, _%_, _≤_, _<_}
 use mathlib.Core.Path.{_≡_, refl, sym, ap, _∙_}
-use mathlib.Core.Bool.{Bool, true, false, not, false≢true}
 use mathlib.Core.List.{List, [], _∷_}
 use lib.Dec.{eqb, ltb}
 use lib.ListN.{length, take, getD, List·getD-append}
@@ -9,7 +8,7 @@ use lib.Seq.{take-append-seam}
 use native.Mathlib.Omega.{arith}
 use native.Mathlib.Nat.{div-add-mod}
 use borrow.Author.Tests.{ltb-false, eqb-true, ne-eqb, lt-ltb, le-ltb, lt-leb, le-leb}
-use Rattle.lists.proofs.Connectives.{both-false}
+use Rattle.lists.proofs.Connectives.{both-false, was-true}
 use Rattle.lists.specs.Lists.{padded}
 use Rattle.pixel.specs.declared.Pixel.{Pixel}
 use Rattle.verdict.specs.Test.{Closeness}
@@ -35,10 +34,6 @@ pub record Asked (e : Closeness) (bytes : List ℕ) (places : ℕ) : Type 0 wher
   pub few : places ≤ mostPixels
   pub close : Offered e
 
-unlike : (b : Bool) → not b ≡ false → b ≡ true
-unlike true q = refl
-unlike false q = absurd (false≢true (sym q))
-
 module _ (e : Closeness) (bytes : List ℕ) (places : ℕ) where
   pub card-turned-down : ¬ (askedNumber e bytes places ≡ 0) → cardNumber e bytes places ≡ askedNumber e bytes places
   unfolding askedNumber cardNumber
@@ -58,7 +53,7 @@ module _ (e : Closeness) (bytes : List ℕ) (places : ℕ) where
       let c = ground-none (badCloseness e) (badLabels bytes places ∷ []) (omega arith) (b .1) in
       let d = ground-none (badLabels bytes places) [] (omega arith) (c .1) in
       let rest = ltb-false 0 (length bytes % 3) (both-false (eqb (length bytes) 0) (ltb 0 (length bytes % 3)) (a .0) .1) in
-      let same : places ≡ length bytes / 3 = eqb-true places (length bytes / 3) (unlike (eqb places (length bytes / 3)) (d .0)) in
+      let same : places ≡ length bytes / 3 = eqb-true places (length bytes / 3) (was-true (eqb places (length bytes / 3)) (d .0)) in
       record {
         threes = omega (arith, div-add-mod (length bytes) 3, rest, same);
         few = omega (arith, same, ltb-false mostPixels (length bytes / 3) (b .0));

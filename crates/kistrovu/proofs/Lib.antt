@@ -3,3 +3,4 @@ mod Modes
 pub mod Turns
 pub mod Cards
 pub mod Texts
+pub mod Replays

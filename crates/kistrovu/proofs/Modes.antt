@@ -15,7 +15,7 @@ use Rattle.listing.specs.Listing.{RingOrdered}
 use Rattle.listing.proofs.Always.{ring-always-ordered}
 use Rattle.kistrovu.specs.declared.ModesAnswer.{ModesAnswer}
 use Rattle.grounds.specs.Grounds.{modesNumber}
-use Rattle.kistrovu.specs.Answers.{modesAnswer, modesList}
+use Rattle.kistrovu.specs.Answers.{served, modesAnswer, modesList}
 use Rattle.grounds.proofs.Served.{Accepted, fit-served, verdict-served, modes-served}
 
 -- ---- what a served call knows of its histogram and its list
@@ -30,13 +30,16 @@ accepted e h places z =
     let v = verdict-served e h (m .0) in
     record { histogram = fit-served h (v .0); close = v .1; room = m .1 }
 
+pub accepted-small : {e : Closeness} {h : List ℕ} {places : ℕ} → ModesAccepted e h places → Small h
+accepted-small m = let a = m .histogram in record { bins = omega (arith, a .bins); counts = omega (arith, a .counts) }
+
 module _ (e : Closeness) (h list : List ℕ) (n : ℕ) (number : n ≡ modesNumber e h (length list)) where
   module _ (z : n ≡ 0) where
     pub modes-accepted : ModesAccepted e h (length list)
     modes-accepted = accepted e h (length list) (sym number ∙ z)
 
     pub modes-small : Small h
-    modes-small = let a = modes-accepted .histogram in record { bins = omega (arith, a .bins); counts = omega (arith, a .counts) }
+    modes-small = accepted-small modes-accepted
 
     pub line-finished : LineFinished e h
     line-finished = let a = modes-accepted .histogram in always-finished e h (a .some) (omega (arith, a .bins)) (omega (arith, a .counts))
@@ -44,27 +47,33 @@ module _ (e : Closeness) (h list : List ℕ) (n : ℕ) (number : n ≡ modesNumb
     pub ring-finished : RingFinished e h × RingOrdered e h
     ring-finished = let a = modes-accepted .histogram in (ring-always-finished e h (a .some) (a .bins) (a .counts), ring-always-ordered e h (a .some))
 
--- ---- what a call hands back and leaves; separatorsOf gives the list of a line, or that of a ring
-pub record Listed (separatorsOf : Closeness → List ℕ → List ℕ) (e : Closeness) (h list : List ℕ) (r : ModesAnswer) (after : List ℕ) : Type 0 where
-  pub answer : r ≡ modesAnswer (separatorsOf e h) (modesNumber e h (length list))
-  pub left : after ≡ modesList (separatorsOf e h) (modesNumber e h (length list)) list
+-- ---- what a call hands back and leaves, by its number
+pub is-served : {A : Type 0} {n : ℕ} (a b : A) → n ≡ 0 → served n a b ≡ a
+is-served a b z = rw (eq-eqb _ _ z) refl
 
-module _ (separatorsOf : Closeness → List ℕ → List ℕ) (e : Closeness) (h list : List ℕ) (n : ℕ) (number : n ≡ modesNumber e h (length list)) where
+pub is-turned-down : {A : Type 0} {n : ℕ} (a b : A) → ¬ (n ≡ 0) → served n a b ≡ b
+is-turned-down a b d = rw (ne-eqb _ _ d) refl
+
+-- separatorsOf gives the list of a line, or that of a ring
+pub record Listed (separatorsOf : Closeness → List ℕ → List ℕ) (e : Closeness) (h list : List ℕ) (number : ℕ) (r : ModesAnswer) (after : List ℕ) : Type 0 where
+  pub answer : r ≡ modesAnswer (separatorsOf e h) number
+  pub left : after ≡ modesList (separatorsOf e h) number list
+
+module _ (separatorsOf : Closeness → List ℕ → List ℕ) (e : Closeness) (h list : List ℕ) (number : ℕ) where
   -- the code lists them at the closeness of a setting, which is the same
-  pub list-served : n ≡ 0 → (at : Closeness) → at ≡ e → (k : ℕ) (after : List ℕ) → k ≡ length (separatorsOf at h) → after ≡ over (separatorsOf at h) list
-      → Listed separatorsOf e h list (record { number = 0; separators = k }) after
+  pub list-served : number ≡ 0 → (at : Closeness) → at ≡ e → (k : ℕ) (after : List ℕ) → k ≡ length (separatorsOf at h) → after ≡ over (separatorsOf at h) list
+      → Listed separatorsOf e h list number (record { number = 0; separators = k }) after
   unfolding modesAnswer modesList
   list-served z at same k after count is =
-      let served : modesNumber e h (length list) ≡ 0 = sym number ∙ z in
-      let yes = eq-eqb _ _ served in
-      let counted = count ∙ ap (λ (x : Closeness). length (separatorsOf x h)) same in
+      let counted = count ∙ ap (λ (x : Closeness). length (separatorsOf x h)) same ∙ sym (is-served _ 0 z) in
       record {
-        answer = rw yes (λ i. record { number = sym served i; separators = counted i });
-        left = rw yes (is ∙ ap (λ (x : Closeness). over (separatorsOf x h) list) same);
+        answer = λ i. record { number = sym z i; separators = counted i };
+        left = is ∙ ap (λ (x : Closeness). over (separatorsOf x h) list) same ∙ sym (is-served _ list z);
       }
 
-  pub list-turned-down : ¬ (n ≡ 0) → Listed separatorsOf e h list (record { number = n; separators = 0 }) list
+  pub list-turned-down : (n : ℕ) → n ≡ number → ¬ (n ≡ 0) → Listed separatorsOf e h list number (record { number = n; separators = 0 }) list
   unfolding modesAnswer modesList
-  list-turned-down d =
-      let no = ne-eqb _ _ (λ z. d (number ∙ z)) in
-      record { answer = rw no (λ i. record { number = number i; separators = 0 }); left = rw no refl }
+  list-turned-down n same d =
+      let no : ¬ (number ≡ 0) = λ z. d (same ∙ z) in
+      let none = sym (is-turned-down (length (separatorsOf e h)) 0 no) in
+      record { answer = λ i. record { number = same i; separators = none i }; left = sym (is-turned-down (over (separatorsOf e h) list) list no) }

@@ -3,7 +3,7 @@ use Prim.Native.Nat.{ℕ}
 use mathlib.Core.Bool.{Bool, false, cond}
 use mathlib.Core.List.{List, [], _∷_, map}
 use lib.Dec.{eqb}
-use lib.IntN.{pos}
+use lib.IntN.{ℤ, pos}
 use lib.ListN.{length}
 use Rattle.lists.specs.Lists.{padded, over}
 use Rattle.pixel.specs.Colour.{measuresOf}
@@ -12,16 +12,18 @@ use Rattle.pooling.specs.Blocks.{direction, fitted}
 use Rattle.verdict.specs.declared.Verdict.{Verdict}
 use Rattle.verdict.specs.Test.{Closeness, verdictOf}
 use Rattle.segmentation.specs.Joining.{lineSeparators}
+use Rattle.joinlog.specs.JoinLog.{madeOnLine, lineLog}
 use Rattle.listing.specs.Listing.{ringSeparators}
 use Rattle.palette.specs.declared.Entry.{Entry}
 use Rattle.palette.specs.Cards.{pixelsOf, entries, labels, mostEntries, noEntry}
 use Rattle.swatch.specs.Input.{bytesOf}
 use Rattle.swatch.specs.Output.{printedLine, printedCard, printedMost}
-use Rattle.grounds.specs.Grounds.{fitNumber, verdictNumber, modesNumber, cardNumber, programCloseness, textNumber}
+use Rattle.grounds.specs.Grounds.{fitNumber, verdictNumber, modesNumber, logNumber, replayNumber, cardNumber, programCloseness, textNumber}
 use Rattle.kistrovu.specs.declared.MeasuresAnswer.{MeasuresAnswer}
 use Rattle.kistrovu.specs.declared.FitAnswer.{FitAnswer}
 use Rattle.kistrovu.specs.declared.VerdictAnswer.{VerdictAnswer}
 use Rattle.kistrovu.specs.declared.ModesAnswer.{ModesAnswer}
+use Rattle.kistrovu.specs.declared.LogAnswer.{LogAnswer}
 use Rattle.kistrovu.specs.declared.Card.{Card}
 use Rattle.kistrovu.specs.declared.Printed.{Printed}
 
@@ -75,6 +77,22 @@ lineList e h list = modesList (lineSeparators e h) (modesNumber e h (length list
 -- A4, R8
 unfoldable pub ringList : Closeness → List ℕ → List ℕ → List ℕ
 ringList e h list = modesList (ringSeparators e h) (modesNumber e h (length list)) list
+
+-- J2: how many joins there are
+unfoldable pub logAnswer : Closeness → List ℕ → (numbers : ℕ) → LogAnswer
+logAnswer e h numbers = record { number = logNumber e h numbers; joins = served (logNumber e h numbers) (length (madeOnLine e h)) 0 }
+
+-- A4, J2: the list as a log call leaves it: the log in its first places, and every number behind it as it was
+unfoldable pub logList : Closeness → List ℕ → List ℤ → List ℤ
+logList e h list = served (logNumber e h (length list)) (over (lineLog e h) list) list
+
+-- J4: a replay that is served hands back and lists what a line call does
+unfoldable pub replayAnswer : Closeness → List ℕ → (log : List ℤ) → (places : ℕ) → ModesAnswer
+replayAnswer e h log places = modesAnswer (lineSeparators e h) (replayNumber e h log places)
+
+-- A4, S10
+unfoldable pub replayList : Closeness → List ℕ → (log : List ℤ) → List ℕ → List ℕ
+replayList e h log list = modesList (lineSeparators e h) (replayNumber e h log (length list)) list
 
 -- the entries of a served card
 unfoldable pub servedEntries : Closeness → List ℕ → ℕ → List Entry

@@ -1,15 +1,16 @@
--- What holds besides the equations: for a served call (D2 and D3), for a card made twice, for a turned ring, and for the program's text. Assumes nothing.
-use Prim.Native.Nat.{ℕ, suc, _≤_, _<_}
+-- What holds besides the equations: for a served call (D2 and D3), for a log and its replay, for a card made twice, for a turned ring, and for the program's text. Assumes nothing.
+use Prim.Native.Nat.{ℕ, suc, _*_, _≤_, _<_}
 use mathlib.Core.Path.{_≡_}
 use mathlib.Core.Bool.{cond}
 use mathlib.Core.List.{List, map}
 use lib.Dec.{ltb, eqb}
-use lib.IntN.{pos}
+use lib.IntN.{ℤ, pos}
 use lib.ListN.{length, take, getD}
 use Rattle.lists.specs.Lists.{total, countIf, contains, ExactlyOne}
 use Rattle.verdict.specs.Test.{Closeness}
 use Rattle.pixel.specs.declared.Pixel.{Pixel}
 use Rattle.palette.specs.declared.Entry.{Entry}
+use Rattle.joinlog.specs.JoinLog.{recordNumbers, lineLog}
 use Rattle.listing.specs.Turning.{turned, turnedBin, SingleLowest, TurnsAlong}
 use Rattle.palette.specs.Levels.{greyLevels, colourLevels}
 use Rattle.palette.specs.Cards.{allGreys, allColours, members, entries, mostEntries, pixelsOf}
@@ -18,12 +19,28 @@ use Rattle.swatch.specs.Reading.{longestSwatch}
 use Rattle.swatch.specs.Output.{printedCard, printedMost}
 use Rattle.swatch.specs.Written.{writtenSwatch, MakesSwatch}
 use Rattle.kistrovu.specs.declared.Card.{Card}
-use Rattle.grounds.specs.Grounds.{modesNumber, cardNumber, programCloseness, textNumber}
-use Rattle.kistrovu.specs.Answers.{ringAnswer, ringList, cardAnswer, labelList, printed, printedAnswer}
+use Rattle.grounds.specs.Grounds.{modesNumber, logNumber, replayNumber, cardNumber, programCloseness, textNumber}
+use Rattle.kistrovu.specs.Answers.{lineAnswer, lineList, ringAnswer, ringList, logAnswer, logList, replayAnswer, replayList, cardAnswer, labelList, printed, printedAnswer}
 
 -- D2 and D3: P holds if the call is served, that is, if its number n is 0
 abbrev pub IfServed : ℕ → Type 0 → Type 0
 IfServed n P = n ≡ 0 → P
+
+-- J4, G20: of all logs a replay accepts that of the line alone. Where no earlier ground holds, it turns any other down with 20
+pub record AcceptsOnly (e : Closeness) (h : List ℕ) (log : List ℤ) (places : ℕ) : Type 0 where
+  pub accepted : replayNumber e h log places ≡ 0 → log ≡ lineLog e h
+  pub accepts : modesNumber e h places ≡ 0 → log ≡ lineLog e h → replayNumber e h log places ≡ 0
+  pub departs : modesNumber e h places ≡ 0 → ¬ (log ≡ lineLog e h) → replayNumber e h log places ≡ 20
+
+-- the log that a log call wrote: the records of as many joins as its answer says
+abbrev pub writtenLog : Closeness → List ℕ → List ℤ → List ℤ
+writtenLog e h list = take (recordNumbers * logAnswer e h (length list) .joins) (logList e h list)
+
+-- J4: a replay of what a served log call wrote answers and lists as a line call does, served or turned down. Proved in proofs/Replays
+abbrev pub LogReplays : Type 0
+LogReplays = (e : Closeness) (h : List ℕ) (list : List ℤ) → IfServed (logNumber e h (length list))
+    (((places : ℕ) → replayAnswer e h (writtenLog e h list) places ≡ lineAnswer e h places)
+    × ((separators : List ℕ) → replayList e h (writtenLog e h list) separators ≡ lineList e h separators))
 
 -- D3 of a served card call, stated only about what it hands back: the answer r, and the labels that it leaves
 module _ (e : Closeness) (bytes : List ℕ) (r : Card) (labels : List ℕ) where

@@ -13,6 +13,7 @@ ghost use Rattle.pooling.specs.Blocks.{direction};
 ghost use Rattle.pooling.specs.Best.{Pooled};
 ghost use Rattle.verdict.specs.Exactness.{VerdictSound};
 ghost use Rattle.segmentation.specs.Finished.{LineFinished, RingFinished};
+ghost use Rattle.joinlog.specs.JoinLog.{LogSound, Replayed};
 ghost use Rattle.listing.specs.Listing.{RingOrdered};
 ghost use Rattle.palette.specs.Cards.{pixelsOf};
 ghost use Rattle.palette.specs.Sound.{SoundCard};
@@ -27,12 +28,16 @@ ghost use Rattle.kistrovu.specs.Answers.{
   lineList,
   ringAnswer,
   ringList,
+  logAnswer,
+  logList,
+  replayAnswer,
+  replayList,
   cardAnswer,
   labelList,
   printedAnswer,
   groundAnswer,
 };
-ghost use Rattle.kistrovu.specs.Facts.{IfServed, SoundAnswer};
+ghost use Rattle.kistrovu.specs.Facts.{IfServed, AcceptsOnly, SoundAnswer};
 
 mod printing;
 
@@ -66,6 +71,13 @@ pub struct VerdictAnswer {
 pub struct ModesAnswer {
     pub number: u32,
     pub separators: u32,
+}
+
+// How many joins there are.
+#[repr(C)]
+pub struct LogAnswer {
+    pub number: u32,
+    pub joins: u32,
 }
 
 // A card, the palette of a cloth: the first len places of entries hold it; the rest are zero.
@@ -195,6 +207,56 @@ pub extern "C" fn kistrovu_ring_modes(
     ModesAnswer {
         number: 0,
         separators: listing::ring_separators(histogram, verdict::setting_of(closeness), separators),
+    }
+}
+
+// The joins of a line in turn: the record of each, four numbers, in the first places of the log. Grounds 6, 7, 8, 10.
+#[no_mangle]
+pub extern "C" fn kistrovu_join_log(histogram: &[u32], closeness: i32, log: &mut [i64]) -> LogAnswer
+    ensures { λ r. ⌜ (r ≡ logAnswer closeness (now (histogram .entry)) (length (now (log .entry))))
+        × (now (log .exit) ≡ logList closeness (now (histogram .entry)) (now (log .entry)))
+        × IfServed (r .number) (LogSound closeness (now (histogram .entry))) ⌝ }
+{
+    let number = grounds::log_number(histogram, closeness, log.len());
+    if number != 0 {
+        return LogAnswer { number, joins: 0 };
+    }
+    LogAnswer {
+        number: 0,
+        joins: joinlog::line_log(histogram, verdict::setting_of(closeness), log),
+    }
+}
+
+// The modes of a line, by a log of its joins that may come from anywhere: its separators, rising, in the first places of the list. Grounds 6, 7, 8, 10, 20.
+#[no_mangle]
+pub extern "C" fn kistrovu_replay(
+    histogram: &[u32],
+    closeness: i32,
+    log: &[i64],
+    separators: &mut [u32],
+) -> ModesAnswer
+    ensures { λ r. ⌜ (r ≡ replayAnswer closeness (now (histogram .entry)) (now (log .entry)) (length (now (separators .entry))))
+        × (now (separators .exit) ≡ replayList closeness (now (histogram .entry)) (now (log .entry)) (now (separators .entry)))
+        × AcceptsOnly closeness (now (histogram .entry)) (now (log .entry)) (length (now (separators .entry)))
+        × IfServed (r .number) (Replayed closeness (now (histogram .entry)) (now (log .entry)) × LineFinished closeness (now (histogram .entry))) ⌝ }
+{
+    let number = grounds::modes_number(histogram, closeness, separators.len());
+    if number != 0 {
+        return ModesAnswer {
+            number,
+            separators: 0,
+        };
+    }
+    let replayed = joinlog::replay(histogram, verdict::setting_of(closeness), log, separators);
+    if !replayed.followed {
+        return ModesAnswer {
+            number: 20,
+            separators: 0,
+        };
+    }
+    ModesAnswer {
+        number: 0,
+        separators: replayed.separators,
     }
 }
 

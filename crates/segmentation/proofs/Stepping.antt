@@ -1,6 +1,6 @@
 -- A line that is held, from its first segments on, and one step along it: the join that comes next is a run of the segments held, and making it leaves fewer segments that cut the line. Assumes nothing.
 use Prim.Native.Nat.{ℕ, _+_, _≤_, _<_}
-use mathlib.Core.Path.{_≡_, sym, ap, subst, _∙_}
+use mathlib.Core.Path.{_≡_, sym, ap, subst}
 use mathlib.Core.List.{List}
 use mathlib.Core.Option.{some}
 use native.Mathlib.Omega.{arith}

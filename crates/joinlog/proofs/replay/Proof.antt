@@ -17,7 +17,7 @@ use Rattle.segmentation.proofs.Applied.{line-held}
 use Rattle.segmentation.proofs.HeldStarts.{held-below, line-listed, line-listed-length}
 use Rattle.joinlog.specs.JoinLog.{madeOnLine, logOf, lineLog, sameNumbers}
 use Rattle.joinlog.proofs.Made.{made-held}
-use Rattle.joinlog.proofs.Numbers.{was-false, was-true}
+use Rattle.lists.proofs.Connectives.{was-false, was-true}
 use Rattle.joinlog.proofs.replay.Statement.{statement}
 use Rattle.joinlog.proofs.replay.Tie as tie
 

@@ -1,5 +1,5 @@
 -- `kistrovu_line_modes` keeps its promise. Assumes nothing.
-use mathlib.Core.Path.{_≡_, ap, _∙_}
+use mathlib.Core.Path.{_≡_, sym, ap, _∙_}
 use borrow.Author.Needs.{needs}
 use lib.ListN.{length}
 use mir.Syntax.{w32}
@@ -32,7 +32,7 @@ unfolding lineAnswer lineList
 returns c =
     let m = c .before in
     let s = m .before .before .before in
-    let down = list-turned-down lineSeparators (s .args .closeness) (s .args .histogram .now) (s .args .separators .now) _ (number m) (c .if1 .taken) in
+    let down = list-turned-down lineSeparators (s .args .closeness) (s .args .histogram .now) (s .args .separators .now) _ _ (number m) (c .if1 .taken) in
     (down .answer, down .left, λ z. absurd (c .if1 .taken z))
 
 setting-of-requires : tie.Need-setting-of-requires
@@ -60,7 +60,7 @@ returns-2 c =
     let s = m .before .before .before in
     let z = setting .before .if1 .left in
     let is : closenessOf (setting .setting-of .result) ≡ s .args .closeness = setting .setting-of .ensures .1 ∙ as-given s in
-    let listed = list-served lineSeparators (s .args .closeness) (s .args .histogram .now) (s .args .separators .now) _ (number m) z _ is _ _ (f .ensures .0) (f .ensures .1) in
+    let listed = list-served lineSeparators (s .args .closeness) (s .args .histogram .now) (s .args .separators .now) _ (sym (number m) ∙ z) _ is _ _ (f .ensures .0) (f .ensures .1) in
     (listed .answer, listed .left, λ u. line-finished (s .args .closeness) (s .args .histogram .now) (s .args .separators .now) _ (number m) z)
 
 pub kistrovu-line-modes-spec : {M : Type 1} → statement M

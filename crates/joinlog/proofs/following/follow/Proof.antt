@@ -18,7 +18,7 @@ use Rattle.segmentation.proofs.Settled.{Shortens, joins-none, line-shortens}
 use Rattle.segmentation.proofs.Stepping.{on-line-count, next-within, fewer, on-line-after}
 use Rattle.joinlog.specs.JoinLog.{JoinRecord, joinsMade, recordOf, numbersOf, recordNumbers, logOf, sameNumbers}
 use Rattle.joinlog.specs.Records.{startsWith}
-use Rattle.joinlog.proofs.Numbers.{was-false, was-true}
+use Rattle.lists.proofs.Connectives.{was-false, was-true}
 use Rattle.joinlog.proofs.Made.{made-none, held-made, made-held}
 use Rattle.joinlog.proofs.Logs.{log-ends, log-departs, log-goes-on, log-room}
 use Rattle.joinlog.proofs.following.follow.Statement.{statement}

@@ -1,13 +1,12 @@
 -- `is_next` meets its contract: a log with fewer than four numbers left does not begin with a record. Assumes nothing.
-use mathlib.Core.Path.{_≡_, refl, sym, ap, _∙_}
-use mathlib.Core.Bool.{Bool, true, false, _&&_}
+use mathlib.Core.Path.{sym, ap, _∙_}
 use mathlib.Core.List.{List}
 use native.Mathlib.Omega.{arith}
 use borrow.Author.Needs.{needs}
 use lib.IntN.{ℤ}
-use lib.ListN.{length, drop, length-drop}
-use Rattle.joinlog.specs.JoinLog.{JoinRecord, numbersOf, sameNumber}
-use Rattle.joinlog.specs.Records.{startsWith, sameRecord}
+use lib.ListN.{drop, length-drop}
+use Rattle.joinlog.specs.JoinLog.{numbersOf}
+use Rattle.joinlog.specs.Records.{startsWith}
 use Rattle.joinlog.proofs.Numbers.{starts-short, starts-take, same-four}
 use Rattle.joinlog.proofs.records.is_next.Statement.{statement}
 use Rattle.joinlog.proofs.records.is_next.Tie as tie

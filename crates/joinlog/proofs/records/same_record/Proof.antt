@@ -1,6 +1,5 @@
 -- `same_record` meets its contract: it compares number by number, and stops at the first that differs. Assumes nothing.
 use mathlib.Core.Path.{_≡_, refl, sym, ap, _∙_}
-use mathlib.Core.Bool.{Bool, true, false, not, false≢true}
 use native.Mathlib.Omega.{arith}
 use borrow.Author.Needs.{needs}
 use lib.IntN.{ℤ}
@@ -8,7 +7,7 @@ use mir.Syntax.{w64}
 use mir.Val.{toZ, ofZ}
 use Rattle.verdict.proofs.Machine.{handed-back}
 use Rattle.joinlog.specs.JoinLog.{sameNumber}
-use Rattle.joinlog.proofs.Numbers.{was-false, was-true}
+use Rattle.lists.proofs.Connectives.{was-false, was-true}
 use Rattle.joinlog.proofs.records.same_record.Statement.{statement}
 use Rattle.joinlog.proofs.records.same_record.Tie as tie
 

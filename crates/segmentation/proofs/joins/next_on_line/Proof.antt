@@ -1,8 +1,7 @@
 -- `next_on_line` meets its contract: the search goes through all runs of the line. Assumes nothing.
-use mathlib.Core.Path.{_≡_, sym, ap, _∙_}
+use mathlib.Core.Path.{sym, ap, _∙_}
 use mathlib.Core.Bool.{false}
 use native.Mathlib.Omega.{arith}
-use lib.ListN.{length}
 use Rattle.verdict.specs.Settings.{closenessOf}
 use Rattle.segmentation.specs.Joining.{lineReader, nextAmong, nextJoin}
 use Rattle.segmentation.specs.Held.{segmentsHeld}
