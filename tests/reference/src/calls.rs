@@ -1,6 +1,7 @@
 //! The public calls: the grounds that concern them, and their answers, served or turned down.
 
 use crate::cards::{self, Entry, Pixel};
+use crate::logs::{self, Logged};
 use crate::measures::{self, Measures};
 use crate::rings::{Finished, RingTraits};
 use crate::test::{self, Verdict};
@@ -18,6 +19,8 @@ pub const MOST_ENTRIES: usize = 255;
 pub const MOST_PRINTED: usize = 19 + 49 * MOST_ENTRIES;
 /// The closeness at which the card program works.
 pub const PROGRAM_CLOSENESS: i32 = 0;
+/// The number of a replay whose log is not the line's.
+pub const ANOTHER_LOG: u32 = 20;
 
 #[derive(Clone, Copy, Debug, PartialEq, Eq)]
 pub struct MeasuresAnswer {
@@ -43,6 +46,13 @@ pub struct VerdictAnswer {
 pub struct ModesAnswer {
     pub number: u32,
     pub separators: u32,
+}
+
+/// How many joins there are. Their records are in the log that was lent.
+#[derive(Clone, Copy, Debug, PartialEq, Eq)]
+pub struct LogAnswer {
+    pub number: u32,
+    pub joins: u32,
 }
 
 /// The first `len` entries are the card's; the labels are in the buffer that was lent.
@@ -141,18 +151,86 @@ fn modes(
 ) -> ModesAnswer {
     let number = first_ground(histogram, Some(closeness), Some(list.len()));
     if number != 0 {
-        return ModesAnswer {
-            number,
-            separators: 0,
-        };
+        return modes_turned_down(number);
     }
-    let separators = separators(&widened(histogram), closeness);
-    for (place, &separator) in list.iter_mut().zip(&separators) {
+    listed(&separators(&widened(histogram), closeness), list)
+}
+
+fn modes_turned_down(number: u32) -> ModesAnswer {
+    ModesAnswer {
+        number,
+        separators: 0,
+    }
+}
+
+/// The answer of a call that is served, its separators at the start of the list.
+fn listed(separators: &[usize], list: &mut [u32]) -> ModesAnswer {
+    for (place, &separator) in list.iter_mut().zip(separators) {
         *place = separator as u32;
     }
     ModesAnswer {
-        number,
+        number: 0,
         separators: separators.len() as u32,
+    }
+}
+
+/// The joins of a line, written to the start of the log. A place of it is as many numbers as a record, and numbers that
+/// are too few for one more do not count.
+pub fn join_log(histogram: &[u32], closeness: i32, log: &mut [i64]) -> LogAnswer {
+    join_log_and_line(histogram, closeness, log).0
+}
+
+/// The same, with what the log was read off; with nothing, if the call is turned down.
+pub fn join_log_and_line(
+    histogram: &[u32],
+    closeness: i32,
+    log: &mut [i64],
+) -> (LogAnswer, Option<Logged>) {
+    let places = log.len() / logs::RECORD;
+    let number = first_ground(histogram, Some(closeness), Some(places));
+    if number != 0 {
+        return (LogAnswer { number, joins: 0 }, None);
+    }
+    let line = logs::logged(&widened(histogram), closeness);
+    for (place, figure) in log.iter_mut().zip(line.numbers()) {
+        *place = figure;
+    }
+    let joins = line.records.len() as u32;
+    (LogAnswer { number, joins }, Some(line))
+}
+
+/// The modes of a line by a log of its joins, which may be any list of numbers.
+pub fn replay(histogram: &[u32], closeness: i32, log: &[i64], list: &mut [u32]) -> ModesAnswer {
+    Replays::of(histogram, closeness).replay(log, list)
+}
+
+/// A line for which logs are replayed, with its own log, for whoever replays many: finding that takes long.
+pub struct Replays<'a> {
+    histogram: &'a [u32],
+    closeness: i32,
+    /// None where every replay is turned down.
+    line: Option<Logged>,
+}
+
+impl<'a> Replays<'a> {
+    pub fn of(histogram: &'a [u32], closeness: i32) -> Replays<'a> {
+        let served = first_ground(histogram, Some(closeness), None) == 0;
+        Replays {
+            histogram,
+            closeness,
+            line: served.then(|| logs::logged(&widened(histogram), closeness)),
+        }
+    }
+
+    pub fn replay(&self, log: &[i64], list: &mut [u32]) -> ModesAnswer {
+        let places = Some(list.len());
+        let number = first_ground(self.histogram, Some(self.closeness), places);
+        let separators = self.line.as_ref().and_then(|line| line.replayed(log));
+        match (number, separators) {
+            (0, Some(separators)) => listed(separators, list),
+            (0, None) => modes_turned_down(ANOTHER_LOG),
+            _ => modes_turned_down(number),
+        }
     }
 }
 
@@ -245,8 +323,8 @@ fn first_card_ground(bytes: &[u8], closeness: i32, places: usize) -> u32 {
     ])
 }
 
-/// The number of the first ground that holds, 0 when none does. A fit has no closeness, and only modes are listed in
-/// places that were lent.
+/// The number of the first ground before 20 that holds, 0 when none does. A fit has no closeness, and only modes and joins
+/// are listed in places that were lent.
 pub fn first_ground(histogram: &[u32], closeness: Option<i32>, places: Option<usize>) -> u32 {
     let bins = histogram.len();
     let sum: u128 = histogram.iter().map(|&count| u128::from(count)).sum();

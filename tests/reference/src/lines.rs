@@ -2,6 +2,7 @@
 //! them are weighed again.
 
 use crate::test::verdict;
+use std::iter::successors;
 
 /// The bins from `start` to `end`, both separators, and the peak that is kept. What is left when no run can be joined
 /// are the modes.
@@ -27,11 +28,14 @@ pub fn separators(counts: &[u64], closeness: i32) -> Vec<usize> {
 
 /// The modes of a line of two bins or more, from left to right.
 pub fn modes(counts: &[u64], closeness: i32) -> Vec<Segment> {
-    let mut segments = first_segments(counts);
-    while let Some(left) = next_joined(counts, closeness, &segments) {
-        segments = left;
-    }
-    segments
+    let last = stages(counts, closeness).pop();
+    last.expect("the first segments are a stage")
+}
+
+/// How a line comes to its modes: its first segments, then those that each join leaves in turn, the modes at last.
+pub fn stages(counts: &[u64], closeness: i32) -> Vec<Vec<Segment>> {
+    let next = |segments: &Vec<Segment>| next_joined(counts, closeness, segments);
+    successors(Some(first_segments(counts)), next).collect()
 }
 
 pub fn first_segments(counts: &[u64]) -> Vec<Segment> {
