@@ -66,6 +66,17 @@ impl IntoRaw for calls::ModesAnswer {
     }
 }
 
+impl IntoRaw for calls::LogAnswer {
+    type Raw = raw::LogAnswer;
+
+    fn into_raw(self) -> raw::LogAnswer {
+        raw::LogAnswer {
+            number: self.number,
+            joins: self.joins,
+        }
+    }
+}
+
 impl IntoRaw for calls::CardAnswer {
     type Raw = raw::Card;
 

@@ -5,7 +5,9 @@
 mod into_raw;
 
 pub use into_raw::IntoRaw;
-pub use kistrovu::raw::{Card, FitAnswer, MeasuresAnswer, ModesAnswer, Printed, VerdictAnswer};
+pub use kistrovu::raw::{
+    Card, FitAnswer, LogAnswer, MeasuresAnswer, ModesAnswer, Printed, VerdictAnswer,
+};
 
 use kistrovu::raw;
 
@@ -44,6 +46,26 @@ fn modes(
     let (list, places) = (separators.as_mut_ptr(), separators.len());
     // SAFETY: each pointer and length are those of one slice, lent for the time of the call; the two do not overlap.
     unsafe { call(bins, len, closeness, list, places) }
+}
+
+pub fn join_log(histogram: &mut [u32], closeness: i32, log: &mut [i64]) -> LogAnswer {
+    let (bins, len) = (histogram.as_mut_ptr(), histogram.len());
+    let (list, numbers) = (log.as_mut_ptr(), log.len());
+    // SAFETY: each pointer and length are those of one slice, lent for the time of the call; the two do not overlap.
+    unsafe { raw::kistrovu_join_log(bins, len, closeness, list, numbers) }
+}
+
+pub fn replay(
+    histogram: &mut [u32],
+    closeness: i32,
+    log: &mut [i64],
+    separators: &mut [u32],
+) -> ModesAnswer {
+    let (bins, len) = (histogram.as_mut_ptr(), histogram.len());
+    let (joins, numbers) = (log.as_mut_ptr(), log.len());
+    let (list, places) = (separators.as_mut_ptr(), separators.len());
+    // SAFETY: each pointer and length are those of one slice, lent for the time of the call; no two of them overlap.
+    unsafe { raw::kistrovu_replay(bins, len, closeness, joins, numbers, list, places) }
 }
 
 pub fn card(pixels: &mut [u8], closeness: i32, labels: &mut [u8]) -> Card {
