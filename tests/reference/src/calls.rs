@@ -174,63 +174,61 @@ fn listed(separators: &[usize], list: &mut [u32]) -> ModesAnswer {
     }
 }
 
-/// The joins of a line, written to the start of the log. A place of it is as many numbers as a record, and numbers that
-/// are too few for one more do not count.
 pub fn join_log(histogram: &[u32], closeness: i32, log: &mut [i64]) -> LogAnswer {
-    join_log_and_line(histogram, closeness, log).0
-}
-
-/// The same, with what the log was read off; with nothing, if the call is turned down.
-pub fn join_log_and_line(
-    histogram: &[u32],
-    closeness: i32,
-    log: &mut [i64],
-) -> (LogAnswer, Option<Logged>) {
-    let places = log.len() / logs::RECORD;
-    let number = first_ground(histogram, Some(closeness), Some(places));
-    if number != 0 {
-        return (LogAnswer { number, joins: 0 }, None);
-    }
-    let line = logs::logged(&widened(histogram), closeness);
-    for (place, figure) in log.iter_mut().zip(line.numbers()) {
-        *place = figure;
-    }
-    let joins = line.records.len() as u32;
-    (LogAnswer { number, joins }, Some(line))
+    Joins::of(histogram, closeness).log(log)
 }
 
 /// The modes of a line by a log of its joins, which may be any list of numbers.
 pub fn replay(histogram: &[u32], closeness: i32, log: &[i64], list: &mut [u32]) -> ModesAnswer {
-    Replays::of(histogram, closeness).replay(log, list)
+    Joins::of(histogram, closeness).replay(log, list)
 }
 
-/// A line for which logs are replayed, with its own log, for whoever replays many: finding that takes long.
-pub struct Replays<'a> {
+/// A line with its own log, for whoever makes several of these calls on one line: finding the log takes long.
+pub struct Joins<'a> {
     histogram: &'a [u32],
     closeness: i32,
-    /// None where every replay is turned down.
-    line: Option<Logged>,
+    /// None where every call is turned down.
+    pub line: Option<Logged>,
 }
 
-impl<'a> Replays<'a> {
-    pub fn of(histogram: &'a [u32], closeness: i32) -> Replays<'a> {
+impl<'a> Joins<'a> {
+    pub fn of(histogram: &'a [u32], closeness: i32) -> Joins<'a> {
         let served = first_ground(histogram, Some(closeness), None) == 0;
-        Replays {
+        Joins {
             histogram,
             closeness,
             line: served.then(|| logs::logged(&widened(histogram), closeness)),
         }
     }
 
+    /// The log is written to the start of what is lent. A place is as many numbers as a record, and numbers that are too few
+    /// for one more do not count.
+    pub fn log(&self, log: &mut [i64]) -> LogAnswer {
+        let number = self.first_ground(log.len() / logs::RECORD);
+        match (number, &self.line) {
+            (0, Some(line)) => {
+                for (place, figure) in log.iter_mut().zip(line.numbers()) {
+                    *place = figure;
+                }
+                let joins = line.records.len() as u32;
+                LogAnswer { number, joins }
+            }
+            _ => LogAnswer { number, joins: 0 },
+        }
+    }
+
     pub fn replay(&self, log: &[i64], list: &mut [u32]) -> ModesAnswer {
-        let places = Some(list.len());
-        let number = first_ground(self.histogram, Some(self.closeness), places);
+        let number = self.first_ground(list.len());
         let separators = self.line.as_ref().and_then(|line| line.replayed(log));
         match (number, separators) {
             (0, Some(separators)) => listed(separators, list),
             (0, None) => modes_turned_down(ANOTHER_LOG),
             _ => modes_turned_down(number),
         }
+    }
+
+    fn first_ground(&self, places: usize) -> u32 {
+        first_ground(self.histogram, Some(self.closeness), Some(places))
     }
 }
 

@@ -34,8 +34,13 @@ pub fn modes(counts: &[u64], closeness: i32) -> Vec<Segment> {
 
 /// How a line comes to its modes: its first segments, then those that each join leaves in turn, the modes at last.
 pub fn stages(counts: &[u64], closeness: i32) -> Vec<Vec<Segment>> {
+    stages_from(counts, closeness, first_segments(counts))
+}
+
+/// The same from any segments on, for whoever asks what would follow from them.
+pub fn stages_from(counts: &[u64], closeness: i32, segments: Vec<Segment>) -> Vec<Vec<Segment>> {
     let next = |segments: &Vec<Segment>| next_joined(counts, closeness, segments);
-    successors(Some(first_segments(counts)), next).collect()
+    successors(Some(segments), next).collect()
 }
 
 pub fn first_segments(counts: &[u64]) -> Vec<Segment> {

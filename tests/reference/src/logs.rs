@@ -68,15 +68,20 @@ impl Logged {
 pub fn logged(counts: &[u64], closeness: i32) -> Logged {
     let stages = stages(counts, closeness);
     let (first, last) = (&stages[0], &stages[stages.len() - 1]);
-    let joins = stages.windows(2);
     let starts = last.iter().map(|mode| mode.start);
     Logged {
         first_segments: first.len(),
-        records: joins
-            .map(|join| record(counts, closeness, &join[0], &join[1]))
-            .collect(),
+        records: records(counts, closeness, &stages),
         separators: starts.chain([counts.len() - 1]).collect(),
     }
+}
+
+/// The record of each join, from the stages before and after it.
+pub fn records(counts: &[u64], closeness: i32, stages: &[Vec<Segment>]) -> Vec<Record> {
+    let joins = stages.windows(2);
+    joins
+        .map(|join| record(counts, closeness, &join[0], &join[1]))
+        .collect()
 }
 
 /// The run begins at the first segment that is another one after the join, and what is missing then are all of its

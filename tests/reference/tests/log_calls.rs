@@ -146,31 +146,25 @@ fn the_first_ground_of_a_replay_counts() {
     assert_eq!(list, [7, 8, 9, 10, 11]);
 }
 
-/// What is found once for many replays answers as the call does, also where every replay is turned down.
+/// What is found once for several calls answers as each of them does, also where every call is turned down.
 #[test]
-fn replays_of_one_line_are_those_of_the_call() {
+fn calls_on_one_line_answer_as_each_call_does() {
     let histograms: [(&[u32], i32); 4] = [(&LINE, 0), (&LINE, -11), (&[5], 0), (&[65_536, 1], 0)];
     for (histogram, closeness) in histograms {
-        let replays = Replays::of(histogram, closeness);
+        let joins = Joins::of(histogram, closeness);
+        for numbers in [0, 19, 20, 21] {
+            let (mut log, mut same_log) = (filled(numbers), filled(numbers));
+            let answer = join_log(histogram, closeness, &mut log);
+            assert_eq!(joins.log(&mut same_log), answer);
+            assert_eq!(log, same_log);
+        }
         for log in [&LOG[..], &[], &LOG[1..]] {
             for places in [0, 4, 5, 6] {
                 let (mut list, mut same_list) = (vec![9; places], vec![9; places]);
                 let answer = replay(histogram, closeness, log, &mut list);
-                assert_eq!(replays.replay(log, &mut same_list), answer);
+                assert_eq!(joins.replay(log, &mut same_list), answer);
                 assert_eq!(list, same_list);
             }
         }
-    }
-}
-
-/// The two calls answer alike; the line comes with what is served only.
-#[test]
-fn a_log_comes_with_its_line() {
-    for (closeness, joins) in [(0, Some(1)), (MOST_CLOSENESS + 1, None)] {
-        let (mut log, mut same_log) = (filled(20), filled(20));
-        let (answer, line) = join_log_and_line(&LINE, closeness, &mut log);
-        assert_eq!(line.map(|line| line.records.len()), joins);
-        assert_eq!(join_log(&LINE, closeness, &mut same_log), answer);
-        assert_eq!(log, same_log);
     }
 }
