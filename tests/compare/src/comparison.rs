@@ -1,6 +1,7 @@
 //! Engine and reference side by side: what was compared, and the first difference.
 
 use crate::groups::Case;
+use crate::logs::LogTally;
 use crate::mode_groups::ModesCase;
 use crate::round_joins::RoundTally;
 use crate::turned_rings::TurnTally;
@@ -18,6 +19,7 @@ pub struct Calls {
     pub lines: bool,
     pub rings: bool,
     pub turns: bool,
+    pub logs: bool,
     pub cards: bool,
     pub texts: bool,
     pub stored: bool,
@@ -32,6 +34,7 @@ impl Calls {
             lines: compared,
             rings: compared,
             turns: compared,
+            logs: compared,
             cards: compared,
             texts: compared,
             stored: compared,
@@ -48,6 +51,7 @@ impl Calls {
             "lines" => &mut calls.lines,
             "rings" => &mut calls.rings,
             "turns" => &mut calls.turns,
+            "logs" => &mut calls.logs,
             "cards" => &mut calls.cards,
             "texts" => &mut calls.texts,
             "stored" => &mut calls.stored,
@@ -91,6 +95,8 @@ pub struct Tally {
     pub round: RoundTally,
     /// Of rings that were also turned.
     pub turned: TurnTally,
+    /// Of lines whose joins were logged.
+    pub logs: LogTally,
 }
 
 impl Tally {
@@ -208,7 +214,7 @@ fn verdict(
 }
 
 /// Places behind the list that was lent: they are not the engine's to write.
-const BEHIND: usize = 4;
+pub const BEHIND: usize = 4;
 
 /// What the engine gave where it agrees with the reference, for whoever asks more of it.
 pub struct Agreed {
@@ -291,7 +297,7 @@ impl Form {
 }
 
 /// Numbers that are no bins, each another one, so that every place that is written shows.
-fn unwritten(places: usize) -> Vec<u32> {
+pub fn unwritten(places: usize) -> Vec<u32> {
     (0..places as u32).map(|place| 1_000_000 + place).collect()
 }
 

@@ -4,25 +4,27 @@
 //!
 //!     cargo run --release -p compare -- [--seed S] [--count N] [--only CALLS]
 //!
-//! CALLS is one of measures, fits, verdicts, lines, rings, turns, cards, texts and stored; turns are rings that are turned
-//! as well. KISTROVU_LIB names another folder to take `libkistrovu.a` from; KISTROVU_CARD names the card program, which is
+//! CALLS is one of measures, fits, verdicts, lines, rings, turns, logs, cards, texts and stored; turns are rings that are
+//! turned as well, logs are those of the joins of lines, written and replayed. KISTROVU_LIB names another folder to take `libkistrovu.a` from; KISTROVU_CARD names the card program, which is
 //! then run on the stored swatches too.
 //! Without arguments the run is the same every time: all pixels, the listed histograms, lines, rings, swatches and texts,
 //! and random ones: `COUNT` histograms, and the shares of `COUNT` that the lists of groups give. Each group prints a
 //! line; at the first difference a group ends with the input and both answers. A group of rings or swatches made for joins
 //! round the ring, or for modes that are not in the order of bin numbers, also fails if it has too few of them, and so does
-//! a group of turned rings with too few on which a turn shows. The last line is the number of groups passed and failed, and
+//! a group of turned rings with too few on which a turn shows, and a group of logs with too few that show how joins are
+//! numbered, which way they are made or that a spoiled log is turned down. The last line is the number of groups passed and failed, and
 //! the exit code is 1 if one failed.
 
 use cloths::random::Random;
 use compare::card_groups::CARDS;
 use compare::comparison::{self, Calls, Difference, Failure, Form, Tally};
 use compare::groups::GROUPS;
+use compare::log_groups;
 use compare::mode_groups::{ModesSource, BOTH, LINES, RINGS};
 use compare::round_joins::Least;
 use compare::text_groups::{GROUNDS, TEXTS};
 use compare::turned_groups::TURNED;
-use compare::{card_comparison, stored};
+use compare::{card_comparison, logs, stored};
 use std::process::ExitCode;
 
 const SEED: u64 = 1;
@@ -35,8 +37,9 @@ const TEXT_STREAMS: usize = 400;
 const PROGRAM_STREAM: usize = 500;
 const GROUND_STREAMS: usize = 600;
 const TURN_STREAMS: usize = 700;
+const LOG_STREAMS: usize = 800;
 const USAGE: &str = "usage: compare [--seed S] [--count N] \
-    [--only measures|fits|verdicts|lines|rings|turns|cards|texts|stored]";
+    [--only measures|fits|verdicts|lines|rings|turns|logs|cards|texts|stored]";
 
 struct Options {
     seed: u64,
@@ -113,6 +116,9 @@ fn run(options: &Options) -> (usize, usize) {
     if calls.turns {
         run.turned_rings();
     }
+    if calls.logs {
+        run.logs();
+    }
     if calls.cards {
         run.cards();
     }
@@ -176,6 +182,22 @@ impl Run<'_> {
                 .map_err(Failure::from)
                 .and_then(|()| tally.turned.check(&group.least));
             self.note(&format!("ring turned, {}", group.name), tally, outcome);
+        }
+    }
+
+    fn logs(&mut self) {
+        for (index, group) in log_groups::groups().iter().enumerate() {
+            let mut tally = Tally::default();
+            let mut random = self.stream(LOG_STREAMS + index);
+            let cases = group.cases.cases(&mut random, self.options.count);
+            let mut placed = cases.iter().enumerate();
+            let outcome = placed.try_for_each(|(place, case)| {
+                logs::compare(case, place, group.spoiled, &mut tally)
+            });
+            let outcome = outcome
+                .map_err(Failure::from)
+                .and_then(|()| tally.logs.check(&group.least));
+            self.note(&format!("log, {}", group.name), tally, outcome);
         }
     }
 
@@ -258,6 +280,10 @@ fn report(name: &str, tally: &Tally, failure: Option<Failure>) {
 fn compared(tally: &Tally) -> String {
     if tally.measures > 0 {
         format!("{} pixels, {} grey", tally.measures, tally.grey)
+    } else if tally.logs.written > 0 {
+        let (served, turned_down) = (tally.served, tally.turned_down);
+        let told = tally.logs.told();
+        format!("{served} served, {turned_down} turned down; {told}")
     } else if tally.modes > 0 || tally.cards > 0 {
         compared_modes(tally)
     } else if tally.texts > 0 {

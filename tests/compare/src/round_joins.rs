@@ -64,20 +64,20 @@ impl Least {
                 tally.rotated,
             ),
         ];
-        enough(tally.rings, &numbers)
+        enough("rings", tally.rings, &numbers)
     }
 }
 
-/// Each number is what is counted, the least of it in thousandths of the rings, and how many were found.
-pub fn enough(rings: u64, numbers: &[(&str, u64, u64)]) -> Result<(), Failure> {
-    if rings < FEWEST_JUDGED {
+/// Each number is what is counted, the least of it in thousandths of all rings or lines, and how many were found.
+pub fn enough(forms: &str, all: u64, numbers: &[(&str, u64, u64)]) -> Result<(), Failure> {
+    if all < FEWEST_JUDGED {
         return Ok(());
     }
     for &(what, least, found) in numbers {
-        let least = least * rings / 1000;
+        let least = least * all / 1000;
         if found < least {
             return Err(Failure::TooFew(format!(
-                "{what}: {found} of {rings} rings, but {least} at least are to be compared"
+                "{what}: {found} of {all} {forms}, but {least} at least are to be compared"
             )));
         }
     }

@@ -221,7 +221,7 @@ impl TurnTally {
             .zip(least.named())
             .map(|((what, found), (_, least))| (what, least, found))
             .collect();
-        enough(self.rings, &numbers)
+        enough("rings", self.rings, &numbers)
     }
 }
 

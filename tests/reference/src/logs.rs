@@ -30,11 +30,10 @@ impl Record {
     }
 }
 
-/// A line with nothing left to join: how many segments it had at first, the record of each join in turn, and the separators
-/// as a call lists them.
+/// A line with nothing left to join: its stages, the record of each join in turn, and the separators as a call lists them.
 #[derive(Clone, Debug, PartialEq, Eq)]
 pub struct Logged {
-    pub first_segments: usize,
+    pub stages: Vec<Vec<Segment>>,
     pub records: Vec<Record>,
     pub separators: Vec<usize>,
 }
@@ -54,7 +53,7 @@ impl Logged {
     /// For each join the number that the first segment of its run had at first: what a log would say whose segments kept
     /// those numbers. For whoever asks if it shows that they do not.
     pub fn first_numbers(&self) -> Vec<usize> {
-        let mut numbers: Vec<usize> = (0..self.first_segments).collect();
+        let mut numbers: Vec<usize> = (0..self.stages[0].len()).collect();
         let mut firsts = Vec::new();
         for record in &self.records {
             firsts.push(numbers[record.first]);
@@ -67,12 +66,12 @@ impl Logged {
 /// The log of a line of two bins or more.
 pub fn logged(counts: &[u64], closeness: i32) -> Logged {
     let stages = stages(counts, closeness);
-    let (first, last) = (&stages[0], &stages[stages.len() - 1]);
-    let starts = last.iter().map(|mode| mode.start);
+    let modes = &stages[stages.len() - 1];
+    let starts = modes.iter().map(|mode| mode.start);
     Logged {
-        first_segments: first.len(),
         records: records(counts, closeness, &stages),
         separators: starts.chain([counts.len() - 1]).collect(),
+        stages,
     }
 }
 

@@ -5,7 +5,7 @@
 mod scatter;
 
 use reference::calls::{line_modes, replay, verdict, LEAST_CLOSENESS, MOST_CLOSENESS};
-use reference::lines::{first_segments, join, modes, stages, Segment};
+use reference::lines::{first_segments, join, modes, Segment};
 use reference::logs::{logged, Logged, Record, RECORD};
 use scatter::Scatter;
 
@@ -46,7 +46,7 @@ fn line_records() -> [Record; 3] {
 #[test]
 fn a_line_to_follow_by_hand() {
     let line = logged(&LINE, CLOSENESS);
-    assert_eq!(line.first_segments, 6);
+    assert_eq!(line.stages[0].len(), 6);
     assert_eq!(line.records, line_records());
     assert_eq!(line.separators, [0, 3, 11]);
     assert_eq!(line.first_numbers(), [0, 2, 2]);
@@ -164,7 +164,7 @@ fn one_segment_has_an_empty_log() {
     for counts in lines {
         for closeness in [LEAST_CLOSENESS, 0, MOST_CLOSENESS] {
             let line = logged(&counts, closeness);
-            assert_eq!((line.first_segments, line.records.len()), (1, 0));
+            assert_eq!((line.stages[0].len(), line.records.len()), (1, 0));
             assert_eq!(line.separators, [0, counts.len() - 1]);
             assert_refused_but(&counts, closeness, &[]);
         }
@@ -176,7 +176,7 @@ fn one_segment_has_an_empty_log() {
 fn lines_of_256_bins() {
     let alternating = [0, 1].repeat(128);
     let line = logged(&alternating, MOST_CLOSENESS);
-    assert_eq!((line.first_segments, line.records.len()), (128, 127));
+    assert_eq!((line.stages[0].len(), line.records.len()), (128, 127));
     assert!(line.records.iter().all(|found| found.len == 2));
     assert_eq!(line.separators, [0, 255]);
     let left = followed(&alternating, &line.numbers()).expect("it can be followed");
@@ -186,7 +186,7 @@ fn lines_of_256_bins() {
     humps[60] -= 3;
     humps[200] -= 2;
     let line = logged(&humps, 0);
-    assert_eq!(line.first_segments, 4);
+    assert_eq!(line.stages[0].len(), 4);
     let runs: Vec<(usize, usize)> = line.records.iter().map(|r| (r.first, r.len)).collect();
     assert_eq!(runs, [(2, 2), (0, 2)]);
     assert_eq!(line.separators, [0, 126, 255]);
@@ -282,7 +282,8 @@ fn followed(counts: &[u64], log: &[i64]) -> Option<Vec<Segment>> {
 /// Each record is that of the next join, as the verdicts give it and as the search of the lines does, and when the log ends
 /// there is none.
 fn assert_by_the_rules(counts: &[u64], closeness: i32, line: &Logged) {
-    let stages = stages(counts, closeness);
+    let stages = &line.stages;
+    assert_eq!(stages[0], first_segments(counts));
     assert_eq!(stages.len(), line.records.len() + 1);
     for (stage, found) in stages.iter().zip(&line.records) {
         let due = by_verdicts(counts, closeness, stage);
