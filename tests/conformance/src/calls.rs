@@ -17,6 +17,9 @@ pub enum Call {
     },
     LineModes(Listing),
     RingModes(Listing),
+    JoinLog(Logging),
+    /// With the list for the separators.
+    Replay(Logging, Vec<u32>),
     Card {
         pixels: Vec<u8>,
         closeness: i32,
@@ -33,7 +36,14 @@ pub struct Listing {
     pub list: Vec<u32>,
 }
 
-/// A figure that comes back. An array has all of its places, a list or label buffer is as it was left.
+/// What either call on a log is given: the log is lent for writing, or for reading.
+pub struct Logging {
+    pub histogram: Vec<u32>,
+    pub closeness: i32,
+    pub log: Vec<i64>,
+}
+
+/// A figure that comes back. An array has all of its places, a list, log or label buffer is as it was left.
 #[derive(Clone, Debug, PartialEq, Eq)]
 pub struct Figure {
     pub name: &'static str,
@@ -86,18 +96,10 @@ pub fn engine(call: &Call) -> Answer {
             let a = lent(histogram, |lent| engine::verdict(lent, *rising, *closeness));
             verdict_answer(a.number, a.verdict.cost, a.verdict.rejected)
         }
-        Call::LineModes(given) => {
-            let mut list = given.list.clone();
-            let call = |lent: &mut [u32]| engine::line_modes(lent, given.closeness, &mut list);
-            let a = lent(&given.histogram, call);
-            modes_answer(a.number, a.separators, list)
-        }
-        Call::RingModes(given) => {
-            let mut list = given.list.clone();
-            let call = |lent: &mut [u32]| engine::ring_modes(lent, given.closeness, &mut list);
-            let a = lent(&given.histogram, call);
-            modes_answer(a.number, a.separators, list)
-        }
+        Call::LineModes(given) => engine_modes(given, engine::line_modes),
+        Call::RingModes(given) => engine_modes(given, engine::ring_modes),
+        Call::JoinLog(given) => engine_log(given),
+        Call::Replay(given, list) => engine_replay(given, list.clone()),
         Call::Card {
             pixels,
             closeness,
@@ -117,6 +119,31 @@ pub fn engine(call: &Call) -> Answer {
             printed_answer(a.number, a.len, &a.bytes)
         }
     }
+}
+
+type EngineModes = fn(&mut [u32], i32, &mut [u32]) -> engine::ModesAnswer;
+
+fn engine_modes(given: &Listing, modes: EngineModes) -> Answer {
+    let mut list = given.list.clone();
+    let call = |lent: &mut [u32]| modes(lent, given.closeness, &mut list);
+    let a = lent(&given.histogram, call);
+    modes_answer(a.number, a.separators, list)
+}
+
+fn engine_log(given: &Logging) -> Answer {
+    let mut log = given.log.clone();
+    let call = |lent: &mut [u32]| engine::join_log(lent, given.closeness, &mut log);
+    let a = lent(&given.histogram, call);
+    log_answer(a.number, a.joins, log)
+}
+
+fn engine_replay(given: &Logging, mut list: Vec<u32>) -> Answer {
+    let a = lent(&given.histogram, |bins| {
+        lent(&given.log, |log| {
+            engine::replay(bins, given.closeness, log, &mut list)
+        })
+    });
+    modes_answer(a.number, a.separators, list)
 }
 
 /// The answer of the second implementation.
@@ -139,14 +166,16 @@ pub fn reference(call: &Call) -> Answer {
             let a = second::verdict(histogram, *rising, *closeness);
             verdict_answer(a.number, a.verdict.cost, a.verdict.rejected)
         }
-        Call::LineModes(given) => {
-            let mut list = given.list.clone();
-            let a = second::line_modes(&given.histogram, given.closeness, &mut list);
-            modes_answer(a.number, a.separators, list)
+        Call::LineModes(given) => second_modes(given, second::line_modes),
+        Call::RingModes(given) => second_modes(given, second::ring_modes),
+        Call::JoinLog(given) => {
+            let mut log = given.log.clone();
+            let a = second::join_log(&given.histogram, given.closeness, &mut log);
+            log_answer(a.number, a.joins, log)
         }
-        Call::RingModes(given) => {
-            let mut list = given.list.clone();
-            let a = second::ring_modes(&given.histogram, given.closeness, &mut list);
+        Call::Replay(given, list) => {
+            let mut list = list.clone();
+            let a = second::replay(&given.histogram, given.closeness, &given.log, &mut list);
             modes_answer(a.number, a.separators, list)
         }
         Call::Card {
@@ -168,6 +197,14 @@ pub fn reference(call: &Call) -> Answer {
             printed_answer(a.number, a.len, &a.bytes)
         }
     }
+}
+
+type SecondModes = fn(&[u32], i32, &mut [u32]) -> second::ModesAnswer;
+
+fn second_modes(given: &Listing, modes: SecondModes) -> Answer {
+    let mut list = given.list.clone();
+    let a = modes(&given.histogram, given.closeness, &mut list);
+    modes_answer(a.number, a.separators, list)
 }
 
 /// Lends a copy to a call of the engine, which may read it only.
@@ -209,6 +246,14 @@ fn modes_answer(number: u32, separators: u32, list: Vec<u32>) -> Answer {
         figure("number", &[number]),
         figure("separators", &[separators]),
         figure("list_after", &list),
+    ]
+}
+
+fn log_answer(number: u32, joins: u32, log: Vec<i64>) -> Answer {
+    vec![
+        figure("number", &[number]),
+        figure("joins", &[joins]),
+        figure("log_after", &log),
     ]
 }
 

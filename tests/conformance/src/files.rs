@@ -1,9 +1,10 @@
 //! The files of the kit: each case is run through both implementations, and written if they agree.
 
-use crate::calls::{engine, reference, Answer, Call};
-use crate::cases::{cards, fits, grounds, modes, pixels, texts, verdicts, Case};
+use crate::calls::{engine, reference, Answer, Call, Logging};
+use crate::cases::{cards, fits, grounds, logs, modes, pixels, texts, verdicts, Case};
 use crate::kept::{folder, FORMAT};
 use crate::writing::{numbers, quoted, rows, text};
+use reference::logs::RECORD;
 use std::fs;
 
 /// A file without its ending, its cases, and what stands on top.
@@ -44,6 +45,16 @@ fn planned() -> Result<Vec<Planned>, String> {
         plan("verdict", "The verdict on a histogram.", verdicts::cases()),
         plan("line_modes", "The modes of a line of bins.", modes::lines()),
         plan("ring_modes", "The modes of a ring of bins.", modes::rings()),
+        plan(
+            "join_log",
+            "The log of the joins of a line of bins.",
+            logs::logs(),
+        ),
+        plan(
+            "replay",
+            "The modes of a line of bins by a log of its joins.",
+            logs::replays(),
+        ),
         plan("card", "The card of an image.", cards::cases()),
         plan(
             "print_card",
@@ -115,6 +126,8 @@ fn given_lines(call: &Call) -> String {
                 + &one("closeness", given.closeness.into())
                 + &numbers("list", &wide(&given.list), 1)
         }
+        Call::JoinLog(given) => logging_lines(given),
+        Call::Replay(given, list) => logging_lines(given) + &numbers("list", &wide(list), 1),
         Call::Card {
             pixels,
             closeness,
@@ -127,6 +140,13 @@ fn given_lines(call: &Call) -> String {
         Call::PrintCard(bytes) => text("text", bytes),
         Call::PrintGround(ground) => one("ground", (*ground).into()),
     }
+}
+
+/// The four numbers of a place of a log belong together.
+fn logging_lines(given: &Logging) -> String {
+    numbers("histogram", &wide(&given.histogram), 1)
+        + &numbers("closeness", &[given.closeness.into()], 1)
+        + &numbers("log", &given.log, RECORD)
 }
 
 /// The figures, without the zeros past the last bin, entry or byte.
@@ -147,6 +167,7 @@ fn answer_lines(call: &Call, answer: &Answer) -> Result<String, String> {
                 let bins = if served { histogram.len() } else { 0 };
                 numbers(figure.name, before_zeros(values, bins)?, 1)
             }
+            (_, "log_after") => numbers(figure.name, values, RECORD),
             (_, "entry") => rows("entry", before_zeros(values, 8 * len)?, 8),
             (_, "printed") => text("printed", &narrow(before_zeros(values, len)?)),
             _ => numbers(figure.name, values, 1),

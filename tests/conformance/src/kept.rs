@@ -1,6 +1,6 @@
 //! The stored cases: calls and answers, made only from the records of a file.
 
-use crate::calls::{Answer, Call, Figure, Listing};
+use crate::calls::{Answer, Call, Figure, Listing, Logging};
 use crate::reading::{records, Record};
 use reference::calls::{MOST_BINS, MOST_ENTRIES, MOST_PRINTED};
 use std::fs;
@@ -57,6 +57,8 @@ fn from_record(name: &str, record: &Record) -> Result<Vec<Kept>, String> {
         "verdict" => vec![verdict(&mut fields)?],
         "line_modes" => vec![modes(&mut fields, Call::LineModes)?],
         "ring_modes" => vec![modes(&mut fields, Call::RingModes)?],
+        "join_log" => vec![join_log(&mut fields)?],
+        "replay" => vec![replay(&mut fields)?],
         "card" => vec![card(&mut fields)?],
         "print_card" => vec![print_card(&mut fields)?],
         "print_ground" => vec![print_ground(&mut fields)?],
@@ -120,9 +122,34 @@ fn modes(fields: &mut Fields, call: fn(Listing) -> Call) -> Result<Pair, String>
         closeness: fields.one("closeness")?,
         list: fields.list("list")?,
     };
+    Ok((call(given), modes_answer(fields)?))
+}
+
+fn modes_answer(fields: &mut Fields) -> Result<Answer, String> {
     let mut answer = fields.figures(&["number", "separators"])?;
     answer.push(figure("list_after", fields.list("list_after")?));
-    Ok((call(given), answer))
+    Ok(answer)
+}
+
+fn join_log(fields: &mut Fields) -> Result<Pair, String> {
+    let given = logging(fields)?;
+    let mut answer = fields.figures(&["number", "joins"])?;
+    answer.push(figure("log_after", fields.list("log_after")?));
+    Ok((Call::JoinLog(given), answer))
+}
+
+fn replay(fields: &mut Fields) -> Result<Pair, String> {
+    let given = logging(fields)?;
+    let list = fields.list("list")?;
+    Ok((Call::Replay(given, list), modes_answer(fields)?))
+}
+
+fn logging(fields: &mut Fields) -> Result<Logging, String> {
+    Ok(Logging {
+        histogram: fields.list("histogram")?,
+        closeness: fields.one("closeness")?,
+        log: fields.list("log")?,
+    })
 }
 
 fn card(fields: &mut Fields) -> Result<Pair, String> {

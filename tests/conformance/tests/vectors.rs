@@ -1,8 +1,10 @@
 //! The kit as stored: it is what the maker makes, and read back it holds for both implementations.
 
-use conformance::calls::{engine, reference, Answer, Call, Listing};
+use conformance::calls::{engine, reference, Answer, Call, Listing, Logging};
 use conformance::files::made;
 use conformance::kept::{cases, folder, FORMAT};
+use reference::calls::Joins;
+use reference::logs::{Logged, RECORD};
 use reference::rings::opening;
 use reference::turns::{lowest_bins, turned, turned_list};
 use std::collections::{BTreeMap, BTreeSet};
@@ -11,7 +13,7 @@ use std::fs;
 /// A file, the least number of its cases, and the least for each number that its call can give.
 type Least = (&'static str, usize, &'static [(i64, usize)]);
 
-const LEAST: [Least; 8] = [
+const LEAST: [Least; 10] = [
     ("measures", 1300, &[(0, 1300)]),
     ("fit", 300, &[(0, 250), (6, 12), (7, 24)]),
     ("verdict", 500, &[(0, 450), (6, 16), (7, 30), (8, 14)]),
@@ -24,6 +26,16 @@ const LEAST: [Least; 8] = [
         "ring_modes",
         350,
         &[(0, 300), (6, 12), (7, 16), (8, 7), (10, 4)],
+    ),
+    (
+        "join_log",
+        250,
+        &[(0, 220), (6, 8), (7, 8), (8, 6), (10, 6)],
+    ),
+    (
+        "replay",
+        500,
+        &[(0, 220), (6, 8), (7, 8), (8, 6), (10, 4), (20, 250)],
     ),
     (
         "card",
@@ -39,6 +51,8 @@ const LEAST: [Least; 8] = [
 ];
 /// The fewest rings whose list is not in the order from the opening.
 const LEAST_ROTATED: usize = 30;
+/// The fewest lines of whose joins something shows in a file on logs.
+const LEAST_SHOWN: usize = 10;
 /// The most bytes of a file, so that it can be read.
 const MOST_BYTES: usize = 300_000;
 
@@ -207,6 +221,91 @@ fn a_ring_with_two_lowest_bins_does_not_turn_along() {
     assert!(lists.len() > 1, "{lists:?}");
 }
 
+/// What is given to the calls of a file on logs, with the number of the answer.
+fn given_logs(name: &str) -> Vec<(Logging, i64)> {
+    let kept = cases(name, &kept_text(name)).expect(name);
+    let given = kept.into_iter().map(|case| match case.call {
+        Call::JoinLog(given) | Call::Replay(given, _) => (given, case.answer[0].values[0]),
+        _ => panic!("another call in {name}"),
+    });
+    given.collect()
+}
+
+/// The lines that are served, each once, with their own logs.
+fn logged_lines(name: &str) -> Vec<Logged> {
+    let served = given_logs(name)
+        .into_iter()
+        .filter(|(_, number)| *number == 0);
+    let lines: BTreeSet<(Vec<u32>, i32)> = served
+        .map(|(given, _)| (given.histogram, given.closeness))
+        .collect();
+    let log = |(histogram, closeness): (Vec<u32>, i32)| Joins::of(&histogram, closeness).line;
+    lines.into_iter().filter_map(log).collect()
+}
+
+/// What a log can have to show, and whether it has.
+type Shows = (&'static str, fn(&Logged) -> bool);
+
+/// How joins are counted, numbered and made.
+const SHOWS: [Shows; 5] = [
+    ("no joins", |line| line.records.is_empty()),
+    ("several joins", |line| line.records.len() > 1),
+    ("a run of three or more", |line| {
+        line.records.iter().any(|record| record.len > 2)
+    }),
+    ("a rise", |line| {
+        line.records.iter().any(|record| record.rise)
+    }),
+    ("segments numbered anew", |line| {
+        let firsts = line.records.iter().map(|record| record.first);
+        !firsts.eq(line.first_numbers())
+    }),
+];
+
+#[test]
+fn many_logs_have_something_to_show() {
+    for name in ["join_log", "replay"] {
+        let lines = logged_lines(name);
+        for (what, shows) in SHOWS {
+            let count = lines.iter().filter(|line| shows(line)).count();
+            assert!(count >= LEAST_SHOWN, "{name}, {what}: {count}");
+        }
+        assert!(lines.iter().any(|line| line.records.len() == 127), "{name}");
+    }
+}
+
+/// Each way in which a spoiled log can be taken for the line's own by a replay that looks at less than all of it.
+#[test]
+fn each_way_of_looking_at_less_is_shown() {
+    let refused: Vec<(Logging, Vec<i64>)> = given_logs("replay")
+        .into_iter()
+        .filter(|(_, number)| *number == 20)
+        .map(|(given, _)| {
+            let line = Joins::of(&given.histogram, given.closeness).line;
+            let own = line.expect("only the log is wrong").numbers();
+            (given, own)
+        })
+        .collect();
+    let but = |log: &[i64], own: &[i64], number: usize| {
+        let differ = (0..own.len()).filter(|&place| log.get(place) != Some(&own[place]));
+        let places: Vec<usize> = differ.collect();
+        let there = places.iter().all(|place| place % RECORD == number);
+        log.len() == own.len() && !places.is_empty() && there
+    };
+    let narrow = |log: &[i64]| -> Vec<i32> { log.iter().map(|&number| number as i32).collect() };
+    let count = |ask: &dyn Fn(&[i64], &[i64]) -> bool| {
+        let taken = refused.iter().filter(|(given, own)| ask(&given.log, own));
+        taken.count()
+    };
+    assert!(count(&|log, own| own.starts_with(log)) >= LEAST_SHOWN);
+    assert!(count(&|log, own| log.starts_with(own)) >= LEAST_SHOWN);
+    assert!(count(&|log, own| narrow(log) == narrow(own)) >= LEAST_SHOWN);
+    for number in 0..RECORD {
+        let found = count(&|log, own| but(log, own, number));
+        assert!(found >= LEAST_SHOWN, "number {number} of a record: {found}");
+    }
+}
+
 #[test]
 fn the_readme_has_the_number_of_cases() {
     let path = folder().join("README.md");
@@ -223,7 +322,7 @@ fn the_readme_has_the_number_of_cases() {
 }
 
 /// The names of the lines that hold answers.
-const ANSWERS: [&str; 12] = [
+const ANSWERS: [&str; 14] = [
     "pixel",
     "number",
     "sums",
@@ -232,6 +331,8 @@ const ANSWERS: [&str; 12] = [
     "rejected",
     "separators",
     "list_after",
+    "joins",
+    "log_after",
     "len",
     "entry",
     "labels_after",

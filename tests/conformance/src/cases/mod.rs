@@ -5,6 +5,7 @@ mod denominators;
 pub mod fits;
 pub mod grounds;
 pub mod histograms;
+pub mod logs;
 pub mod modes;
 pub mod pixels;
 mod rounds;
@@ -35,6 +36,12 @@ impl Case {
 /// A list as lent: no bins, and falling, so that a place that is written, moved or sorted shows.
 fn unwritten_list(places: usize) -> Vec<u32> {
     (0..places as u32).map(|place| 907 - place % 7).collect()
+}
+
+/// A log as lent, alike: no numbers of a record, and none that fits 32 bits.
+fn unwritten_log(numbers: usize) -> Vec<i64> {
+    let number = |place: usize| 5_000_000_007 - place as i64 % 8;
+    (0..numbers).map(number).collect()
 }
 
 /// Labels as lent, alike.

@@ -248,7 +248,7 @@ fn grounds_at_once() -> Vec<Asked> {
 /// Histograms on which an engine that has misread a rule gives other separators: the rule, a closeness, the counts.
 pub type Rule = (&'static str, i32, &'static [u32]);
 
-const LINE_RULES: &[Rule] = &[
+pub(super) const LINE_RULES: &[Rule] = &[
     ("the leftmost of equal runs is joined", 0, &[8, 1, 3, 1, 8]),
     (
         "the leftmost of equal runs is joined",
