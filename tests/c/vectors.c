@@ -346,6 +346,16 @@ static bool same_bytes(const struct reader *reader, const struct field *kept, co
     return true;
 }
 
+static bool same_numbers(const struct reader *reader, const struct field *kept, const int64_t *found, size_t places)
+{
+    for (size_t place = 0; place < places; place++) {
+        if (!same(reader, kept->name, place, kept_or_zero(kept, place), found[place])) {
+            return false;
+        }
+    }
+    return true;
+}
+
 /* ---- lending */
 
 static uint32_t *words_of(const struct field *field, uint32_t *words)
@@ -362,6 +372,14 @@ static uint8_t *bytes_of(const struct field *field, uint8_t *bytes)
         bytes[place] = (uint8_t)field->values[place];
     }
     return bytes;
+}
+
+static int64_t *numbers_of(const struct field *field, int64_t *numbers)
+{
+    for (size_t place = 0; place < field->count; place++) {
+        numbers[place] = field->values[place];
+    }
+    return numbers;
 }
 
 /* Room for writing between two guards. */
@@ -467,6 +485,51 @@ static bool line_modes_hold(const struct reader *reader, size_t *cases)
 static bool ring_modes_hold(const struct reader *reader, size_t *cases)
 {
     return modes_hold(reader, kistrovu_ring_modes, cases);
+}
+
+/* The log is compared as the call leaves it, to its last number. */
+static bool join_log_holds(const struct reader *reader, size_t *cases)
+{
+    const struct field *histogram = field_at(reader, 0, "histogram");
+    int32_t closeness = (int32_t)value_at(reader, 1, "closeness");
+    const struct field *log = field_at(reader, 2, "log");
+    uint32_t *bins = words_of(histogram, allocate(histogram->count * sizeof *bins));
+    struct lent lent;
+    int64_t *numbers = numbers_of(log, lend(&lent, log->count * sizeof *numbers));
+    struct kistrovu_log_answer found = kistrovu_join_log(bins, histogram->count, closeness, numbers, log->count);
+    bool hold = same_value(reader, 3, "number", found.number)
+        && same_value(reader, 4, "joins", found.joins)
+        && same_numbers(reader, list_of(reader, 5, "log_after", log->count), numbers, log->count)
+        && same_words(reader, histogram, bins, histogram->count);
+    hold &= take_back(reader, &lent);
+    free(bins);
+    (*cases)++;
+    return hold;
+}
+
+/* The log is lent for reading, the list for writing. */
+static bool replay_holds(const struct reader *reader, size_t *cases)
+{
+    const struct field *histogram = field_at(reader, 0, "histogram");
+    int32_t closeness = (int32_t)value_at(reader, 1, "closeness");
+    const struct field *log = field_at(reader, 2, "log");
+    const struct field *list = field_at(reader, 3, "list");
+    uint32_t *bins = words_of(histogram, allocate(histogram->count * sizeof *bins));
+    int64_t *numbers = numbers_of(log, allocate(log->count * sizeof *numbers));
+    struct lent lent;
+    uint32_t *places = words_of(list, lend(&lent, list->count * sizeof *places));
+    struct kistrovu_modes_answer found =
+        kistrovu_replay(bins, histogram->count, closeness, numbers, log->count, places, list->count);
+    bool hold = same_value(reader, 4, "number", found.number)
+        && same_value(reader, 5, "separators", found.separators)
+        && same_words(reader, list_of(reader, 6, "list_after", list->count), places, list->count)
+        && same_numbers(reader, log, numbers, log->count)
+        && same_words(reader, histogram, bins, histogram->count);
+    hold &= take_back(reader, &lent);
+    free(numbers);
+    free(bins);
+    (*cases)++;
+    return hold;
 }
 
 static bool same_entries(const struct reader *reader, const struct field *kept, const struct kistrovu_card *found)
@@ -578,6 +641,8 @@ static const struct {
     {"verdict", verdict_holds, 6},
     {"line_modes", line_modes_hold, 6},
     {"ring_modes", ring_modes_hold, 6},
+    {"join_log", join_log_holds, 6},
+    {"replay", replay_holds, 7},
     {"card", card_holds, 7},
     {"print_card", print_card_holds, 4},
     {"print_ground", print_ground_holds, 4},
