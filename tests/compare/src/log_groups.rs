@@ -105,10 +105,10 @@ const LEAST: [(&str, Logs); 14] = [
     ("two bins", least_of(0, 0, 0, 0, 400, 0)),
     ("all zero and all equal", least_of(0, 0, 0, 0, 400, 0)),
     ("cost 0 and next to it", least_of(0, 0, 80, 0, 1_000, 0)),
-    ("places of the list", least_of(30, 0, 80, 5, 450, 0)),
+    ("places of the list", least_of(20, 0, 30, 0, 450, 0)),
     (
         "every closeness -12 to 22",
-        least_of(80, 1, 100, 8, 1_100, 12),
+        least_of(60, 0, 80, 0, 1_000, 8),
     ),
     ("few levels", least_of(150, 8, 110, 2, 1_200, 20)),
     ("periods", least_of(250, 25, 150, 25, 1_500, 40)),

@@ -168,16 +168,8 @@ pub fn reference(call: &Call) -> Answer {
         }
         Call::LineModes(given) => second_modes(given, second::line_modes),
         Call::RingModes(given) => second_modes(given, second::ring_modes),
-        Call::JoinLog(given) => {
-            let mut log = given.log.clone();
-            let a = second::join_log(&given.histogram, given.closeness, &mut log);
-            log_answer(a.number, a.joins, log)
-        }
-        Call::Replay(given, list) => {
-            let mut list = list.clone();
-            let a = second::replay(&given.histogram, given.closeness, &given.log, &mut list);
-            modes_answer(a.number, a.separators, list)
-        }
+        Call::JoinLog(given) => second_log(given),
+        Call::Replay(given, list) => second_replay(given, list.clone()),
         Call::Card {
             pixels,
             closeness,
@@ -204,6 +196,17 @@ type SecondModes = fn(&[u32], i32, &mut [u32]) -> second::ModesAnswer;
 fn second_modes(given: &Listing, modes: SecondModes) -> Answer {
     let mut list = given.list.clone();
     let a = modes(&given.histogram, given.closeness, &mut list);
+    modes_answer(a.number, a.separators, list)
+}
+
+fn second_log(given: &Logging) -> Answer {
+    let mut log = given.log.clone();
+    let a = second::join_log(&given.histogram, given.closeness, &mut log);
+    log_answer(a.number, a.joins, log)
+}
+
+fn second_replay(given: &Logging, mut list: Vec<u32>) -> Answer {
+    let a = second::replay(&given.histogram, given.closeness, &given.log, &mut list);
     modes_answer(a.number, a.separators, list)
 }
 

@@ -274,7 +274,7 @@ fn served_or_10(bins: usize, numbers: usize) -> &'static str {
     }
 }
 
-/// A choice of grounds that hold, and what it is called.
+/// A choice of one or more grounds that hold, and what it is called.
 struct Choice {
     what: String,
     histogram: Vec<u32>,
@@ -293,9 +293,11 @@ fn choice(choice: u32) -> Choice {
         .map(|(ground, _)| ground.to_string())
         .collect();
     let what = match numbers.as_slice() {
-        [] => "no ground holds".to_string(),
         [one] => format!("ground {one} alone"),
-        [first, ..] => format!("grounds {} hold: {first} comes first", numbers.join(", ")),
+        _ => {
+            let all = numbers.join(", ");
+            format!("grounds {all} hold: {} comes first", numbers[0])
+        }
     };
     let mut histogram = vec![0; if holds(0) { MOST_BINS + 1 } else { 5 }];
     histogram[1] = 1;
@@ -314,7 +316,7 @@ fn log_grounds_at_once() -> Vec<Case> {
         let numbers = RECORD * choice.histogram.len() - usize::from(choice.short);
         log_of(choice.what, choice.histogram, choice.closeness, numbers)
     };
-    (0..16).map(choice).map(case).collect()
+    (1..16).map(choice).map(case).collect()
 }
 
 pub fn replays() -> Vec<Case> {
@@ -325,6 +327,7 @@ pub fn replays() -> Vec<Case> {
     cases.extend(replay_grounds());
     cases.extend(replay_grounds_at_once());
     cases.extend(odd_logs());
+    cases.extend(long_logs());
     cases
 }
 
@@ -391,11 +394,13 @@ fn every_damage() -> Vec<Case> {
     })
 }
 
-/// Five for each of the other lines that are made for a rule.
+/// Five for each of the other lines that are made for a rule, each line once.
 fn damage_in_turn() -> Vec<Case> {
     let rules = LOG_RULES.iter().skip(1).chain(LINE_RULES);
+    let mut met = BTreeSet::new();
+    let lines = rules.filter(|(_, closeness, counts)| met.insert((*closeness, *counts)));
     let mut cases = Vec::new();
-    for (place, (_, closeness, counts)) in rules.enumerate() {
+    for (place, (_, closeness, counts)) in lines.enumerate() {
         cases.extend(spoiled(counts, *closeness, |line| {
             let places = 5 * place..5 * place + 5;
             places.filter_map(|place| in_turn(line, place)).collect()
@@ -436,7 +441,7 @@ fn replay_grounds() -> Vec<Case> {
     lines.map(case).collect()
 }
 
-/// Every choice of the grounds 6, 7, 8, 10 and 20, and of none.
+/// Every choice of the grounds 6, 7, 8, 10 and 20.
 fn replay_grounds_at_once() -> Vec<Case> {
     let case = |choice: Choice| {
         let Choice {
@@ -451,56 +456,46 @@ fn replay_grounds_at_once() -> Vec<Case> {
         let places = histogram.len() - usize::from(choice.short);
         replay_in(places, choice.what, &histogram, closeness, log)
     };
-    (0..32).map(choice).map(case).collect()
+    (1..32).map(choice).map(case).collect()
 }
 
-/// Logs of lines without joins, and logs far too long.
+/// Of lines without joins; and too long, where there is nothing left to join.
 fn odd_logs() -> Vec<Case> {
-    let apart = [0, 20, 0, 20, 0];
-    let mut cases = vec![
-        replay_of("an empty log, and nothing to join", &apart, 0, vec![]),
-        replay_of(
-            "an empty log, though two are to be joined: ground 20",
+    let (apart, equal) = ([0, 20, 0, 20, 0], [3; 6]);
+    let odd: [(&str, &[u32], i32, Vec<i64>); 6] = [
+        (
+            "an empty log, though two segments are to be joined: ground 20",
             &apart,
             14,
             vec![],
         ),
-        replay_of(
-            "zeros, where nothing is to be joined: ground 20",
-            &apart,
-            0,
-            vec![0; 4],
-        ),
-        replay_of(
-            "one zero, where nothing is to be joined: ground 20",
-            &apart,
-            0,
-            vec![0],
-        ),
-        replay_of(
-            "1,000 zeros, where nothing is to be joined: ground 20",
-            &apart,
-            0,
-            vec![0; 1_000],
-        ),
-        replay_of("an empty log of equal bins", &[3; 6], 0, vec![]),
-        replay_of(
-            "a join of equal bins: ground 20",
-            &[3; 6],
+        ("zeros: ground 20", &apart, 0, vec![0; RECORD]),
+        ("one zero: ground 20", &apart, 0, vec![0]),
+        ("1,000 zeros: ground 20", &apart, 0, vec![0; 1_000]),
+        ("an empty log of equal bins", &equal, 0, vec![]),
+        (
+            "a run of one segment: ground 20",
+            &equal,
             0,
             vec![0, 1, 0, -1],
         ),
     ];
+    odd.map(|(what, histogram, closeness, log)| replay_of(what, histogram, closeness, log))
+        .into()
+}
+
+fn long_logs() -> Vec<Case> {
     let alternating = [0, 1].repeat(MOST_BINS / 2);
     let log = own(&alternating, MOST_CLOSENESS);
-    for (what, log) in [
+    [
         ("one record short", log[..log.len() - RECORD].to_vec()),
         ("one number short", log[..log.len() - 1].to_vec()),
         ("one number too long", [&log[..], &[0]].concat()),
         ("twice as long", log.repeat(2)),
-    ] {
+    ]
+    .map(|(what, log)| {
         let what = format!("127 joins in 256 bins, the log {what}: ground 20");
-        cases.push(replay_of(what, &alternating, MOST_CLOSENESS, log));
-    }
-    cases
+        replay_of(what, &alternating, MOST_CLOSENESS, log)
+    })
+    .into()
 }
