@@ -32,8 +32,9 @@ macro_rules! grounds {
             ///
             /// ```
             /// # use kistrovu::Ground;
-            /// assert_eq!(Ground::LISTED.len(), 11);
+            /// assert_eq!(Ground::LISTED.len(), 12);
             /// assert_eq!(Ground::LISTED[10], Ground::Entries);
+            /// assert_eq!(Ground::LISTED[11], Ground::Log);
             /// ```
             pub const LISTED: &'static [Ground] = &[$(Ground::$name,)*];
 
@@ -63,8 +64,9 @@ grounds! {
     Sum = 7: "The counts of the histogram add up to more than 65,536.",
     Closeness = 8: "The closeness is below -10 or above 20.",
     Labels = 9: "The label buffer does not have one place for each pixel.",
-    Separators = 10: "The separator list is shorter than the histogram.",
+    Separators = 10: "The separator list, or the list to write a log in, has fewer places than the histogram has bins.",
     Entries = 11: "The card would have more than 255 entries.",
+    Log = 20: "The log is not the one that the method writes for the line.",
 }
 
 impl Ground {
@@ -86,6 +88,7 @@ impl Ground {
     /// assert_eq!(Ground::from_number(0), None);
     /// assert_eq!(Ground::from_number(10), Some(Ground::Separators));
     /// assert_eq!(Ground::from_number(12), Some(Ground::Unlisted));
+    /// assert_eq!(Ground::from_number(20), Some(Ground::Log));
     /// ```
     pub fn from_number(number: u32) -> Option<Ground> {
         let listed = || Ground::LISTED.iter().find(|g| g.number() == number);

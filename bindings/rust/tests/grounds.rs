@@ -51,9 +51,9 @@ fn sentences_are_those_of_the_rules() {
 }
 
 #[test]
-fn numbers_are_1_to_11_in_order() {
+fn numbers_are_1_to_11_and_20_in_order() {
     let numbers: Vec<u32> = Ground::LISTED.iter().map(|g| g.number()).collect();
-    assert_eq!(numbers, (1..=11).collect::<Vec<u32>>());
+    assert_eq!(numbers, (1..=11).chain([20]).collect::<Vec<u32>>());
 }
 
 #[test]
@@ -62,7 +62,8 @@ fn a_number_gives_the_ground_that_has_it() {
         assert_eq!(Ground::from_number(ground.number()), Some(ground));
     }
     assert_eq!(Ground::from_number(0), None);
-    for number in [12, 13, 256, 65_536, u32::MAX - 1, Ground::Unlisted.number()] {
+    let above = [21, 256, 65_536, u32::MAX - 1, Ground::Unlisted.number()];
+    for number in (12..20).chain(above) {
         assert_eq!(Ground::from_number(number), Some(Ground::Unlisted));
     }
 }
@@ -88,6 +89,7 @@ fn limits_are_the_headers() {
         line.expect(name).parse::<usize>().expect(name)
     };
     assert_eq!(defined("MOST_BINS"), raw::MOST_BINS);
+    assert_eq!(defined("RECORD_NUMBERS"), raw::RECORD_NUMBERS);
     assert_eq!(defined("MOST_ENTRIES"), raw::MOST_ENTRIES);
     assert_eq!(defined("MOST_PRINTED"), raw::MOST_PRINTED);
 }
