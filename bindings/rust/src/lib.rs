@@ -25,6 +25,8 @@
 //! | [`verdict`] | whether a histogram can be taken for a monotone one, and by how much | 6, 7, 8 |
 //! | [`line_modes`], [`line_modes_into`] | where the modes of a line of bins begin and end | 6, 7, 8; into a list also 10 |
 //! | [`ring_modes`], [`ring_modes_into`] | the same for a ring | 6, 7, 8; into a list also 10 |
+//! | [`join_log`], [`join_log_into`] | how a line came to its modes: a record of each join | 6, 7, 8; into a log also 10 |
+//! | [`replay`], [`replay_into`] | the modes of a line by a log of its joins | 6, 7, 8, 20; into a list also 10 |
 //! | [`card`], [`card_into`] | the card of an image and the label of each pixel | 4, 5, 8, 11; into labels also 9 |
 //! | [`print_card`] | the text of the card of a swatch that is given as text | 1, 2, 3, 11 |
 //! | [`print_ground`] | the line that the card program prints for a swatch that is turned down | none |
@@ -44,8 +46,8 @@
 //! image, every other call less than 20 KB. **A thread that makes cards needs 1 MB.** Threads of the standard library
 //! have 2 MB by default. The engine keeps no state, so calls may run on many threads at once.
 //!
-//! Only the calls that hand back a `Vec` ([`card`], [`line_modes`], [`ring_modes`]) use the heap; without the feature
-//! `alloc`, which is on by default, they are left out. The crate does not need the standard library.
+//! Only the calls that hand back a `Vec` ([`card`], [`line_modes`], [`ring_modes`], [`join_log`], [`replay`]) use the heap;
+//! without the feature `alloc`, which is on by default, they are left out. The crate does not need the standard library.
 //!
 //! # What is proved, and what is not
 //!
@@ -66,6 +68,7 @@ extern crate std;
 mod cards;
 mod grounds;
 mod histograms;
+mod joins;
 mod measures;
 mod modes;
 pub mod raw;
@@ -77,10 +80,15 @@ pub use cards::{card, Card};
 pub use cards::{card_into, Entries, Entry, Kind};
 pub use grounds::Ground;
 pub use histograms::{fit, verdict, Block, Direction, Fit, Verdict};
+#[cfg(feature = "alloc")]
+pub use joins::{join_log, replay};
+pub use joins::{join_log_into, replay_into};
 pub use measures::{measures, Measures};
 #[cfg(feature = "alloc")]
 pub use modes::{line_modes, ring_modes};
 pub use modes::{line_modes_into, ring_modes_into};
+#[doc(inline)]
+pub use raw::JoinRecord;
 pub use texts::{print_card, print_ground, Printed};
 pub use versions::{version, Version};
 

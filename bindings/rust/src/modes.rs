@@ -141,7 +141,8 @@ fn modes(
     read(answer, places)
 }
 
-fn read(answer: ModesAnswer, places: usize) -> Result<usize, Ground> {
+/// How many separators stand in the first of so many places.
+pub(crate) fn read(answer: ModesAnswer, places: usize) -> Result<usize, Ground> {
     Ground::check(answer.number)?;
     Ok(places.min(answer.separators as usize))
 }

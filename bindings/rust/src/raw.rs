@@ -92,9 +92,10 @@ pub struct ModesAnswer {
     pub separators: u32,
 }
 
-/// A join as a log has it: four numbers in a row.
+/// A join as a log has it: four numbers in a row. The engine writes what is said of each; a record from elsewhere may hold
+/// anything.
 #[repr(C)]
-#[derive(Clone, Copy, Debug, PartialEq, Eq)]
+#[derive(Clone, Copy, Debug, Default, PartialEq, Eq, Hash)]
 pub struct JoinRecord {
     /// The number of the first segment that is joined, as the segments are numbered just before the join.
     pub first: i64,
