@@ -1,14 +1,18 @@
 //! Lists that are lent: a call that is turned down leaves them as they were; one that is served writes nothing but the
-//! labels or the first places. And the calls that are lent no list give the same answers.
+//! labels or the first places. And the calls that are lent no list give the same answers. A log that is replayed may hold
+//! anything.
 
 mod common;
 
 use common::{cube, examples, file, pixels};
 use kistrovu::raw::{LEAST_CLOSENESS, MOST_BINS, MOST_CLOSENESS, MOST_PIXELS};
 use kistrovu::*;
+use std::fmt::Debug;
 
 const PIXELS: u32 = MOST_PIXELS as u32;
 const HUMPS: [u32; 7] = [0, 20, 0, 0, 20, 0, 30];
+/// The two small humps are joined, and then both to the first large one.
+const JOINED: [u32; 9] = [0, 30, 0, 2, 1, 2, 0, 30, 0];
 
 type ModesInto = fn(&[u32], i32, &mut [u32]) -> Result<usize, Ground>;
 const MODES: [ModesInto; 2] = [line_modes_into, ring_modes_into];
@@ -18,32 +22,44 @@ fn list(places: usize) -> Vec<u32> {
     (0..places as u32).map(|place| 1_000_000 + place).collect()
 }
 
-/// The ground; checks that the list came back as lent.
-fn modes_turned_down(call: ModesInto, histogram: &[u32], closeness: i32, places: usize) -> Ground {
-    let mut lent = list(places);
-    let ground = call(histogram, closeness, &mut lent).unwrap_err();
-    assert_eq!(lent, list(places));
-    ground
+/// Records that no log has, all different, likewise.
+fn records(places: usize) -> Vec<JoinRecord> {
+    let record = |place| JoinRecord::from([-1, -2, -3, 1_000_000 + place]);
+    (0..places as i64).map(record).collect()
+}
+
+/// Tries the grounds of a call that is lent a list of a place for each bin: it comes back as lent.
+fn leaves_the_list<T: Debug + PartialEq>(
+    call: impl Fn(&[u32], i32, &mut [T]) -> Result<usize, Ground>,
+    list: fn(usize) -> Vec<T>,
+) {
+    let ground = |histogram: &[u32], closeness, places| {
+        let mut lent = list(places);
+        let ground = call(histogram, closeness, &mut lent).unwrap_err();
+        assert_eq!(lent, list(places));
+        ground
+    };
+    assert_eq!(ground(&[], 0, 0), Ground::Bins);
+    assert_eq!(ground(&[5], 0, 5), Ground::Bins);
+    assert_eq!(ground(&[0; MOST_BINS + 1], 21, 300), Ground::Bins);
+    assert_eq!(ground(&[PIXELS, 1], 21, 1), Ground::Sum);
+    assert_eq!(ground(&[u32::MAX; 256], 0, 256), Ground::Sum);
+    assert_eq!(ground(&HUMPS, MOST_CLOSENESS + 1, 6), Ground::Closeness);
+    assert_eq!(ground(&HUMPS, LEAST_CLOSENESS - 1, 6), Ground::Closeness);
+    assert_eq!(ground(&HUMPS, i32::MAX, 7), Ground::Closeness);
+    assert_eq!(ground(&HUMPS, i32::MIN, 7), Ground::Closeness);
+    assert_eq!(ground(&HUMPS, 0, 6), Ground::Separators);
+    assert_eq!(ground(&HUMPS, 0, 0), Ground::Separators);
 }
 
 #[test]
-fn modes_that_are_turned_down_leave_the_list() {
+fn calls_that_are_turned_down_leave_the_list() {
     for call in MODES {
-        let ground = |histogram: &[u32], closeness, places| {
-            modes_turned_down(call, histogram, closeness, places)
-        };
-        assert_eq!(ground(&[], 0, 0), Ground::Bins);
-        assert_eq!(ground(&[5], 0, 5), Ground::Bins);
-        assert_eq!(ground(&[0; MOST_BINS + 1], 21, 300), Ground::Bins);
-        assert_eq!(ground(&[PIXELS, 1], 21, 1), Ground::Sum);
-        assert_eq!(ground(&[u32::MAX; 256], 0, 256), Ground::Sum);
-        assert_eq!(ground(&HUMPS, MOST_CLOSENESS + 1, 6), Ground::Closeness);
-        assert_eq!(ground(&HUMPS, LEAST_CLOSENESS - 1, 6), Ground::Closeness);
-        assert_eq!(ground(&HUMPS, i32::MAX, 7), Ground::Closeness);
-        assert_eq!(ground(&HUMPS, i32::MIN, 7), Ground::Closeness);
-        assert_eq!(ground(&HUMPS, 0, 6), Ground::Separators);
-        assert_eq!(ground(&HUMPS, 0, 0), Ground::Separators);
+        leaves_the_list(call, list);
     }
+    leaves_the_list(join_log_into, records);
+    // The log is wrong as well, which is the last ground to be tested.
+    leaves_the_list(|h, e, lent| replay_into(h, e, &records(3), lent), list);
 }
 
 #[test]
@@ -56,6 +72,74 @@ fn served_modes_write_the_first_places_alone() {
             assert_eq!(lent[count..], list(places)[count..]);
         }
     }
+}
+
+#[test]
+fn a_served_log_has_its_records_in_the_first_places_alone() {
+    for places in [9, 10, 300] {
+        let mut lent = records(places);
+        assert_eq!(join_log_into(&JOINED, 0, &mut lent), Ok(2));
+        let runs = [(1, 2), (0, 2)];
+        assert_eq!(
+            [&lent[0], &lent[1]].map(|join| (join.first, join.length)),
+            runs
+        );
+        assert!(lent[..2].iter().all(|join| join.rise == 0 && join.cost < 0));
+        assert_eq!(lent[2..], records(places)[2..]);
+    }
+    let mut lent = records(7);
+    assert_eq!(join_log_into(&HUMPS, 0, &mut lent), Ok(0));
+    assert_eq!(lent, records(7));
+}
+
+#[test]
+fn a_served_replay_writes_the_first_places_alone() {
+    let log = join_log(&JOINED, 0).unwrap();
+    for places in [9, 10, 300] {
+        let mut lent = list(places);
+        assert_eq!(replay_into(&JOINED, 0, &log, &mut lent), Ok(3));
+        assert_eq!(lent[..3], [0, 6, 8]);
+        assert_eq!(lent[3..], list(places)[3..]);
+    }
+    // Nothing is joined, and the log is empty.
+    assert_eq!(replay(&HUMPS, 0, &[]), Ok(vec![0, 2, 5, 6]));
+}
+
+/// The log with one of its numbers altered: by one, and to some that no log has.
+fn altered(log: &[JoinRecord]) -> Vec<Vec<JoinRecord>> {
+    let mut all = Vec::new();
+    for place in 0..log.len() {
+        for number in 0..4 {
+            let numbers = <[i64; 4]>::from(log[place]);
+            let right = numbers[number];
+            for other in [right - 1, right + 1, 2 + right, -256, i64::MIN, i64::MAX] {
+                let mut wrong = numbers;
+                wrong[number] = other;
+                let mut log = log.to_vec();
+                log[place] = wrong.into();
+                all.push(log);
+            }
+        }
+    }
+    all
+}
+
+#[test]
+fn any_other_log_is_turned_down_and_leaves_the_list() {
+    let right = join_log(&JOINED, 0).unwrap();
+    let mut wrong = altered(&right);
+    wrong.extend([vec![], right[..1].to_vec(), right[1..].to_vec()]);
+    wrong.extend([vec![right[1], right[0]], vec![right[0], right[0]]]);
+    wrong.extend([1, 2, 300].map(|more| [right.clone(), records(more)].concat()));
+    wrong.extend([[right.clone(), vec![right[1]]].concat(), records(256)]);
+    for log in wrong {
+        let mut lent = list(9);
+        assert_eq!(replay_into(&JOINED, 0, &log, &mut lent), Err(Ground::Log));
+        assert_eq!(lent, list(9), "{log:?}");
+    }
+    // The log of the line at another closeness, and that of another line.
+    assert_eq!(replay(&JOINED, 1, &right), Err(Ground::Log));
+    assert_eq!(replay(&HUMPS, 0, &right), Err(Ground::Log));
 }
 
 /// It opens at bin 3, and bin 0 is listed first nevertheless.
@@ -77,6 +161,8 @@ fn limits_are_served() {
         for call in MODES {
             assert!(call(&sum, closeness, &mut [0; MOST_BINS]).is_ok());
         }
+        let log = join_log(&sum, closeness).unwrap();
+        assert_eq!(replay(&sum, closeness, &log), line_modes(&sum, closeness));
         assert!(line_modes(&sum, closeness).is_ok());
         assert!(ring_modes(&sum, closeness).is_ok());
         assert!(verdict(&sum, Direction::Decreasing, closeness).is_ok());
@@ -127,4 +213,14 @@ fn with_a_heap_and_without_the_answers_are_the_same() {
     let mut lent = list(7);
     let count = ring_modes_into(&HUMPS, 0, &mut lent).unwrap();
     assert_eq!(ring_modes(&HUMPS, 0), Ok(lent[..count].to_vec()));
+    let mut log = records(9);
+    let joins = join_log_into(&JOINED, 0, &mut log).unwrap();
+    assert_eq!(join_log(&JOINED, 0).as_deref(), Ok(&log[..joins]));
+    let mut lent = list(9);
+    let count = replay_into(&JOINED, 0, &log[..joins], &mut lent).unwrap();
+    assert_eq!(
+        replay(&JOINED, 0, &log[..joins]),
+        Ok(lent[..count].to_vec())
+    );
+    assert_eq!(line_modes(&JOINED, 0), Ok(lent[..count].to_vec()));
 }

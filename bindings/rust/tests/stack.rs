@@ -1,17 +1,23 @@
-//! The largest calls on a thread that has 1 MB of stack. A call that took more would end the whole test program.
+//! The largest calls on a thread that has 1 MB of stack, and those of a log on one that has 64 KB. A call that took more
+//! would end the whole test program.
 
 mod common;
 
 use common::file;
-use kistrovu::raw::{MOST_ENTRIES, MOST_PIXELS, MOST_PRINTED};
-use kistrovu::{card, print_card};
+use kistrovu::raw::{MOST_BINS, MOST_ENTRIES, MOST_PIXELS, MOST_PRINTED};
+use kistrovu::{card, join_log, line_modes, print_card, replay};
 use std::thread::Builder;
 
 const MEGABYTE: usize = 1 << 20;
+const LITTLE: usize = 1 << 16;
+
+fn with_stack<T: Send + 'static>(bytes: usize, work: impl FnOnce() -> T + Send + 'static) -> T {
+    let thread = Builder::new().stack_size(bytes).spawn(work);
+    thread.expect("a thread").join().expect("its end")
+}
 
 fn with_a_megabyte<T: Send + 'static>(work: impl FnOnce() -> T + Send + 'static) -> T {
-    let thread = Builder::new().stack_size(MEGABYTE).spawn(work);
-    thread.expect("a thread").join().expect("its end")
+    with_stack(MEGABYTE, work)
 }
 
 /// An image of this many pixels, each of another colour than the one before it.
@@ -42,4 +48,18 @@ fn printed(name: &str) -> usize {
 fn the_longest_text_and_the_longest_card() {
     printed("16384-pixels");
     assert_eq!(printed(&format!("{MOST_ENTRIES}-entries")), MOST_PRINTED);
+}
+
+/// As many bins and humps as there can be, which are joined to one mode.
+#[test]
+fn the_longest_line_and_its_log() {
+    let line: Vec<u32> = (0..MOST_BINS as u32).map(|bin| bin % 2).collect();
+    let separators = line_modes(&line, 20).unwrap();
+    assert_eq!(separators, [0, 255]);
+    let (joins, replayed) = with_stack(LITTLE, move || {
+        let log = join_log(&line, 20).unwrap();
+        (log.len(), replay(&line, 20, &log))
+    });
+    assert!(joins > 100);
+    assert_eq!(replayed, Ok(separators));
 }
