@@ -4,24 +4,26 @@ use super::rattle::Source;
 use super::tokens::tokens;
 use std::collections::BTreeMap;
 
-/// docs/METHOD.md lists this many.
-const COUNT: u64 = 11;
+/// The numbers that docs/METHOD.md lists, in order.
+const LISTED: [u64; 12] = [1, 2, 3, 4, 5, 6, 7, 8, 9, 10, 11, 20];
 
-/// The grounds' words in order, from number 1 on, and for each call the numbers of those that concern it.
+/// The grounds' words by their numbers, and for each call the numbers of those that concern it.
 #[derive(Clone, Debug, PartialEq, Eq)]
 pub struct Grounds {
-    pub words: Vec<String>,
+    pub words: BTreeMap<u64, String>,
     pub calls: BTreeMap<String, Vec<u64>>,
 }
 
 /// The definition of each call's number. Those of a call that no ground concerns have none.
-const NUMBERS: [(&str, Option<&str>); 9] = [
+const NUMBERS: [(&str, Option<&str>); 11] = [
     ("kistrovu_version", None),
     ("kistrovu_measures", None),
     ("kistrovu_fit", Some("fitNumber")),
     ("kistrovu_verdict", Some("verdictNumber")),
     ("kistrovu_line_modes", Some("modesNumber")),
     ("kistrovu_ring_modes", Some("modesNumber")),
+    ("kistrovu_join_log", Some("logNumber")),
+    ("kistrovu_replay", Some("replayNumber")),
     ("kistrovu_card", Some("cardNumber")),
     ("kistrovu_print_card", Some("textNumber")),
     ("kistrovu_print_ground", None),
@@ -34,8 +36,7 @@ impl Grounds {
         let numbers: Vec<u64> = worded.iter().map(|(number, _)| *number).collect();
         let defined: Vec<(String, u64)> = text.lines().filter_map(defined).collect();
         let found: Vec<u64> = defined.iter().map(|(_, number)| *number).collect();
-        let expected: Vec<u64> = (1..=COUNT).collect();
-        if numbers != expected || found != expected {
+        if numbers != LISTED || found != LISTED {
             return Err(format!("grounds {numbers:?} are listed, {found:?} defined"));
         }
         let names: BTreeMap<String, u64> = defined.into_iter().collect();
@@ -44,7 +45,7 @@ impl Grounds {
             Ok((call.to_string(), found?))
         });
         Ok(Grounds {
-            words: worded.into_iter().map(|(_, words)| words).collect(),
+            words: worded.into_iter().collect(),
             calls: calls.collect::<Result<_, String>>()?,
         })
     }

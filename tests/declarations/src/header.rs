@@ -5,6 +5,8 @@ use super::grounds::Grounds;
 use super::rattle::{Source, Struct};
 use super::same;
 use super::tokens::{tokens, without_comments, Cursor};
+use std::collections::BTreeMap;
+use std::iter::once;
 
 /// What a scan of the header finds, in its order.
 #[derive(Clone, Debug, Default, PartialEq, Eq)]
@@ -70,14 +72,14 @@ impl Header {
         figures_agree(&grounds.words, values)
     }
 
-    /// One enumerator for each number from 0 on, in order, and beside each ground its words.
-    fn grounds_agree(&self, words: &[String]) -> Result<(), String> {
+    /// One enumerator for 0 and one for each ground, in the order of their numbers, and beside each ground its words.
+    fn grounds_agree(&self, words: &BTreeMap<u64, String>) -> Result<(), String> {
         let numbers: Vec<u64> = self.grounds.iter().map(|found| found.number).collect();
-        let expected: Vec<u64> = (0..=words.len() as u64).collect();
+        let expected: Vec<u64> = once(0).chain(words.keys().copied()).collect();
         if numbers != expected {
             return Err(format!("the numbers of the grounds are {numbers:?}"));
         }
-        let mut named = self.grounds.iter().skip(1).zip(words);
+        let mut named = self.grounds.iter().skip(1).zip(words.values());
         match named.find(|(found, words)| found.words != **words) {
             Some((found, _)) => Err(format!("the words of {} are others", found.name)),
             None => Ok(()),
@@ -86,7 +88,7 @@ impl Header {
 }
 
 /// The grounds whose words have the figure of a limit.
-const FIGURES: [(usize, &str); 6] = [
+const FIGURES: [(u64, &str); 6] = [
     (2, "KISTROVU_MOST_SWATCH_PIXELS"),
     (5, "KISTROVU_MOST_PIXELS"),
     (6, "KISTROVU_MOST_BINS"),
@@ -95,11 +97,11 @@ const FIGURES: [(usize, &str); 6] = [
     (11, "KISTROVU_MOST_ENTRIES"),
 ];
 
-fn figures_agree(words: &[String], values: &[(String, i64)]) -> Result<(), String> {
+fn figures_agree(words: &BTreeMap<u64, String>, values: &[(String, i64)]) -> Result<(), String> {
     for (number, name) in FIGURES {
         let value = values.iter().find(|(other, _)| other == name);
         let (_, value) = value.ok_or(format!("{name} is not known"))?;
-        let plain = words[number - 1].replace(',', "");
+        let plain = words[&number].replace(',', "");
         if !plain.split(' ').any(|word| word == value.to_string()) {
             return Err(format!("the words of ground {number} have not {name}"));
         }
@@ -181,6 +183,7 @@ pub fn values(source: &Source) -> Result<Vec<(String, i64)>, String> {
         named("VERSION_MINOR", version / 100 % 100),
         named("VERSION_PATCH", version % 100),
         named("MOST_BINS", source.length("FitAnswer", "sums")? as i64),
+        named("RECORD_NUMBERS", source.constant("RECORD_NUMBERS")?),
         named("LEAST_CLOSENESS", source.constant("LEAST_CLOSENESS")?),
         named("MOST_CLOSENESS", source.constant("MOST_CLOSENESS")?),
         named("MOST_PIXELS", source.constant("MOST_PIXELS")?),

@@ -244,6 +244,17 @@ impl Source {
         self.calls.iter().any(|call| call.answer == item)
     }
 
+    /// Whether it is a place of a log, which is lent as a list of numbers: every field is such a number, there are as many
+    /// as a place has, and a call is lent such a list.
+    pub fn is_record(&self, made: &Struct) -> bool {
+        let numbers = self.constants.get("RECORD_NUMBERS");
+        let plain = |field: &Field| field.item == Item::I64 && field.length.is_none();
+        let mut lent = self.calls.iter().flat_map(|call| &call.arguments);
+        numbers == Some(&(made.fields.len() as i64))
+            && made.fields.iter().all(plain)
+            && lent.any(|argument| *argument == Argument::LentForWriting(Item::I64))
+    }
+
     /// Whether another struct holds it.
     pub fn is_held(&self, made: &Struct) -> bool {
         let item = Item::Struct(made.name.clone());

@@ -37,8 +37,8 @@ fn wrong_structs_are_refused() {
             "the type of rejected in struct kistrovu_verdict",
         ),
         (
-            "    int64_t cost;",
-            "    uint64_t cost;",
+            "    int64_t cost;\n    bool rejected;",
+            "    uint64_t cost;\n    bool rejected;",
             "the type of cost in struct kistrovu_verdict",
         ),
         (
@@ -75,6 +75,50 @@ fn wrong_structs_are_refused() {
         ),
     ];
     HEADER.refused("structs", &edits);
+}
+
+/// The numbers of a record are of one type, so that only their places tell them apart.
+#[test]
+fn wrong_records_are_refused() {
+    let edits = [
+        (
+            "    int64_t first;  /* the number of the first segment that is joined */\n    int64_t length;",
+            "    int64_t length;\n    int64_t first;",
+            "the place of first in struct kistrovu_join_record",
+        ),
+        (
+            "    int64_t first; ",
+            "    uint64_t first; ",
+            "the type of first in struct kistrovu_join_record",
+        ),
+        (
+            "    int64_t rise; ",
+            "    bool rise; ",
+            "the size of rise in struct kistrovu_join_record",
+        ),
+        (
+            "struct kistrovu_join_record {\n",
+            "struct kistrovu_join_record {\n    int64_t number;\n",
+            "the size of struct kistrovu_join_record",
+        ),
+        (
+            "struct kistrovu_join_record {",
+            "struct kistrovu_record {",
+            "struct kistrovu_join_record",
+        ),
+        (
+            "    uint32_t joins;",
+            "    uint64_t joins;",
+            "the size of joins in struct kistrovu_log_answer",
+        ),
+        ("    uint32_t joins;\n", "", "joins"),
+        (
+            "struct kistrovu_log_answer { /* 8 bytes */",
+            "struct kistrovu_log_answer { /* 16 bytes */",
+            "sizes in comments",
+        ),
+    ];
+    HEADER.refused("records", &edits);
 }
 
 #[test]
@@ -130,6 +174,43 @@ fn wrong_calls_are_refused() {
 }
 
 #[test]
+fn wrong_calls_of_a_log_are_refused() {
+    let edits = [
+        (
+            "int32_t closeness, int64_t *log",
+            "int32_t closeness, const int64_t *log",
+            "is_kistrovu_join_log",
+        ),
+        (
+            "int32_t closeness, int64_t *log",
+            "int32_t closeness, struct kistrovu_join_record *log",
+            "is_kistrovu_join_log",
+        ),
+        (
+            "kistrovu_log_answer kistrovu_join_log(",
+            "kistrovu_log_answer kistrovu_log(",
+            "kistrovu_join_log",
+        ),
+        (
+            "int32_t closeness, const int64_t *log",
+            "int32_t closeness, int64_t *log",
+            "is_kistrovu_replay",
+        ),
+        (
+            "size_t numbers, uint32_t *separators",
+            "size_t numbers, const uint32_t *separators",
+            "is_kistrovu_replay",
+        ),
+        (
+            "struct kistrovu_modes_answer kistrovu_replay",
+            "struct kistrovu_log_answer kistrovu_replay",
+            "is_kistrovu_replay",
+        ),
+    ];
+    HEADER.refused("log-calls", &edits);
+}
+
+#[test]
 fn calls_left_over_are_refused() {
     let edits = [
         (
@@ -155,8 +236,18 @@ fn wrong_grounds_are_refused() {
             "numbers of the grounds",
         ),
         (
-            "KISTROVU_ENTRIES = 11 ",
-            "KISTROVU_ENTRIES = 12 ",
+            "KISTROVU_ENTRIES = 11,",
+            "KISTROVU_ENTRIES = 12,",
+            "numbers of the grounds",
+        ),
+        (
+            "KISTROVU_LOG = 20 ",
+            "KISTROVU_LOG = 12 ",
+            "numbers of the grounds",
+        ),
+        (
+            "    KISTROVU_LOG = 20 ",
+            "    KISTROVU_MORE = 12,\n    KISTROVU_LOG = 20 ",
             "numbers of the grounds",
         ),
         ("    KISTROVU_SERVED = 0,\n", "", "numbers of the grounds"),
@@ -171,9 +262,29 @@ fn wrong_grounds_are_refused() {
             "the words of KISTROVU_CLOSENESS",
         ),
         (
+            "the list to write a log in, has fewer places",
+            "the log, has fewer places",
+            "the words of KISTROVU_SEPARATORS",
+        ),
+        (
+            "the method writes for the line */",
+            "the method writes for a line */",
+            "the words of KISTROVU_LOG",
+        ),
+        (
             "Grounds 4, 5, 8, 9, 11\n",
             "Grounds 4, 5, 8, 11\n",
             "the grounds of kistrovu_card are said to be [4, 5, 8, 11]",
+        ),
+        (
+            "the log of a line's joins. Grounds 6, 7, 8, 10\n",
+            "the log of a line's joins. Grounds 6, 7, 8, 10, 20\n",
+            "the grounds of kistrovu_join_log are said to be [6, 7, 8, 10, 20]",
+        ),
+        (
+            "Grounds 6, 7, 8, 10, 20\n",
+            "Grounds 6, 7, 8, 10\n",
+            "the grounds of kistrovu_replay are said to be [6, 7, 8, 10]",
         ),
         (
             "No ground concerns it; the number",
@@ -191,6 +302,16 @@ fn wrong_macros_are_refused() {
             "#define KISTROVU_MOST_ENTRIES 255",
             "#define KISTROVU_MOST_ENTRIES 254",
             "KISTROVU_MOST_ENTRIES",
+        ),
+        (
+            "#define KISTROVU_RECORD_NUMBERS 4\n",
+            "#define KISTROVU_RECORD_NUMBERS 5\n",
+            "KISTROVU_RECORD_NUMBERS",
+        ),
+        (
+            "#define KISTROVU_RECORD_NUMBERS 4\n",
+            "",
+            "KISTROVU_RECORD_NUMBERS",
         ),
         (
             "#define KISTROVU_VERSION_MINOR ",

@@ -29,7 +29,11 @@ fn wrong_structs_are_refused() {
             "    pub rejected: bool,",
             "&made.rejected",
         ),
-        ("    pub cost: i64,", "    pub cost: u64,", "&made.cost"),
+        (
+            "    pub cost: i64,\n    /// 1 if the histogram is rejected",
+            "    pub cost: u64,\n    /// 1 if the histogram is rejected",
+            "&made.cost",
+        ),
         (
             "pub entries: [Entry; MOST_ENTRIES]",
             "pub entries: [Entry; MOST_BINS]",
@@ -51,7 +55,24 @@ fn wrong_structs_are_refused() {
     RAW.refused("raw-structs", &edits);
 }
 
-/// The two lists of a fit are of one type, so that only their places tell them apart.
+#[test]
+fn wrong_records_are_refused() {
+    let edits = [
+        ("    pub first: i64,", "    pub first: u64,", "&made.first"),
+        // Padded, it is as large, and all else is in its place.
+        ("    pub rise: i64,", "    pub rise: u8,", "&made.rise"),
+        ("    pub joins: u32,", "    pub joins: i32,", "&made.joins"),
+        ("    pub joins: u32,\n", "", "`joins`"),
+        (
+            "pub struct JoinRecord {\n",
+            "pub struct JoinRecord {\n    pub number: i64,\n",
+            "`number`",
+        ),
+    ];
+    RAW.refused("raw-records", &edits);
+}
+
+/// The two lists of a fit are of one type, and so are the numbers of a record: only their places tell them apart.
 #[test]
 fn wrong_places_are_refused() {
     let lists = "    /// For each bin the sum of its block.
@@ -62,17 +83,31 @@ fn wrong_places_are_refused() {
     let swapped = "    pub lengths: [u32; MOST_BINS],\n    pub sums: [u32; MOST_BINS],\n";
     let said = "offset_of!(raw::FitAnswer, sums)";
     RAW.refused("raw-places", &[(lists, swapped, said)]);
+    let numbers = "    pub first: i64,
+    /// How many segments are joined, 2 or more.
+    pub length: i64,
+";
+    let swapped = "    pub length: i64,\n    pub first: i64,\n";
+    let said = "offset_of!(raw::JoinRecord, first)";
+    RAW.refused("raw-record-places", &[(numbers, swapped, said)]);
 }
 
 /// A layout that the compiler chooses may be right by chance, so it is refused by the scan.
 #[test]
 fn a_layout_that_is_not_promised_is_refused() {
-    let edit = (
-        "#[repr(C)]\n#[derive(Clone, Copy, Debug, PartialEq, Eq)]\npub struct ModesAnswer",
-        "#[derive(Clone, Copy, Debug, PartialEq, Eq)]\npub struct ModesAnswer",
-        "ModesAnswer is not repr(C)",
-    );
-    RAW.refused("raw-unmarked", &[edit]);
+    let edits = [
+        (
+            "#[repr(C)]\n#[derive(Clone, Copy, Debug, PartialEq, Eq)]\npub struct ModesAnswer",
+            "#[derive(Clone, Copy, Debug, PartialEq, Eq)]\npub struct ModesAnswer",
+            "ModesAnswer is not repr(C)",
+        ),
+        (
+            "#[repr(C)]\n#[derive(Clone, Copy, Debug, Default, PartialEq, Eq, Hash)]\npub struct JoinRecord",
+            "#[derive(Clone, Copy, Debug, Default, PartialEq, Eq, Hash)]\npub struct JoinRecord",
+            "JoinRecord is not repr(C)",
+        ),
+    ];
+    RAW.refused("raw-unmarked", &edits);
 }
 
 #[test]
@@ -114,10 +149,27 @@ fn wrong_calls_are_refused() {
             "extern \"C\" {\n    pub fn kistrovu_more() -> u32;\n",
             "[\"kistrovu_more\"]",
         ),
+        ("log: *mut i64", "log: *const i64", "raw::kistrovu_join_log"),
+        (
+            "log: *mut i64",
+            "log: *mut JoinRecord",
+            "raw::kistrovu_join_log",
+        ),
+        ("log: *const i64", "log: *mut i64", "raw::kistrovu_replay"),
+        (
+            "pub fn kistrovu_replay(",
+            "pub fn kistrovu_follow(",
+            "kistrovu_replay",
+        ),
         (
             "Grounds 4, 5, 8, 9, 11",
             "Grounds 4, 5, 8, 9",
             "the grounds of kistrovu_card",
+        ),
+        (
+            "Grounds 6, 7, 8, 10, 20",
+            "Grounds 6, 7, 8, 10",
+            "the grounds of kistrovu_replay",
         ),
     ];
     RAW.refused("raw-calls", &edits);
@@ -130,6 +182,11 @@ fn wrong_constants_are_refused() {
             "MOST_ENTRIES: usize = 255",
             "MOST_ENTRIES: usize = 254",
             "raw::MOST_ENTRIES",
+        ),
+        (
+            "RECORD_NUMBERS: usize = 4",
+            "RECORD_NUMBERS: usize = 5",
+            "raw::RECORD_NUMBERS",
         ),
         (
             "MOST_CLOSENESS: i32 = 20",

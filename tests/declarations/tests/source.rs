@@ -19,7 +19,9 @@ fn all_that_is_marked_is_read() {
     assert_eq!(source.structs.len(), total("#[repr(C)]"));
     assert_eq!(source.calls.len(), total("#[no_mangle]"));
     let used = |made| source.is_answer(made) || source.is_held(made);
-    assert_eq!(source.structs.iter().find(|made| !used(made)), None);
+    let rest: Vec<_> = source.structs.iter().filter(|made| !used(made)).collect();
+    assert_eq!(rest.len(), 1, "{rest:?}");
+    assert!(source.is_record(rest[0]), "{rest:?}");
 }
 
 #[test]
@@ -124,6 +126,30 @@ fn a_changed_source_is_seen() {
             "kistrovu_rings",
             "kistrovu_rings",
         ),
+        (
+            "crates/joinlog/src/lib.rt",
+            "pub rise: i64",
+            "pub rise: bool",
+            "the size of rise",
+        ),
+        (
+            "crates/joinlog/src/lib.rt",
+            "RECORD_NUMBERS: usize = 4",
+            "RECORD_NUMBERS: usize = 5",
+            "KISTROVU_RECORD_NUMBERS",
+        ),
+        (
+            "crates/kistrovu/src/lib.rt",
+            "pub joins: u32",
+            "pub joins: i64",
+            "the size of joins",
+        ),
+        (
+            "crates/kistrovu/src/lib.rt",
+            "log: &[i64]",
+            "log: &mut [i64]",
+            "is_kistrovu_replay",
+        ),
     ];
     let right = Texts::of_repository();
     let folder = Path::new(env!("CARGO_TARGET_TMPDIR")).join("source");
@@ -166,6 +192,13 @@ fn wrong_lists_of_grounds_are_refused() {
         edited(&right, "- **G9** ", "- **G10** "),
         edited(&right, "number = 9;", "number = 8;"),
         edited(&right, "textNumber text = ", "wordNumber text = "),
+        edited(&right, "- **G20** ", "- **G12** "),
+        edited(&right, "number = 20;", "number = 12;"),
+        edited(
+            &right,
+            "replayNumber e h log places = ",
+            "n e h log places = ",
+        ),
         String::new(),
     ];
     for text in wrong {
@@ -178,11 +211,21 @@ fn a_changed_sequence_of_grounds_is_seen() {
     let texts = Texts::of_repository();
     let source = texts.source().expect("the source can be read");
     let comments = read("crates/kistrovu/src/lib.rt");
-    let fewer = edited(&texts.grounds, " ∷ fewPlaces h places ∷ [])", " ∷ [])");
+    let edits = [
+        (
+            " ∷ badCloseness e ∷ fewPlaces h places ∷ [])",
+            " ∷ badCloseness e ∷ [])",
+            "kistrovu_line_modes",
+        ),
+        (" ∷ otherLog e h log ∷ [])", " ∷ [])", "kistrovu_replay"),
+    ];
     for text in [&texts.header, &comments] {
         let said = |grounds: &str| Grounds::read(grounds)?.are_said(&source, text);
         assert_eq!(said(&texts.grounds), Ok(()));
-        assert!(said(&fewer).is_err_and(|wrong| wrong.contains("kistrovu_line_modes")));
+        for (from, to, call) in edits {
+            let fewer = edited(&texts.grounds, from, to);
+            assert!(said(&fewer).is_err_and(|wrong| wrong.contains(call)));
+        }
     }
 }
 
