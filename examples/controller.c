@@ -40,8 +40,9 @@ static const char *const sentences[] = {
     [KISTROVU_SUM] = "the counts of the histogram add up to more than 65,536",
     [KISTROVU_CLOSENESS] = "the closeness is below -10 or above 20",
     [KISTROVU_LABELS] = "the label buffer does not have one place for each pixel",
-    [KISTROVU_SEPARATORS] = "the separator list is shorter than the histogram",
+    [KISTROVU_SEPARATORS] = "the separator list, or the list to write a log in, has fewer places than the histogram has bins",
     [KISTROVU_ENTRIES] = "the card would have more than 255 entries",
+    [KISTROVU_LOG] = "the log is not the one that the method writes for the line",
 };
 
 static int complain(int status, const char *what, const char *why)

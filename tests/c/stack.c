@@ -22,6 +22,8 @@ static uint8_t pixels[3 * KISTROVU_MOST_PIXELS];
 static uint8_t labels[KISTROVU_MOST_PIXELS];
 static uint32_t bins[KISTROVU_MOST_BINS];
 static uint32_t separators[KISTROVU_MOST_BINS];
+static struct kistrovu_join_record joins[KISTROVU_MOST_BINS];
+static size_t numbers;
 static volatile uint32_t sink;
 
 static void *nothing(void *argument) { return argument; }
@@ -42,6 +44,23 @@ static void *find_modes(void *argument) {
     sink = kistrovu_verdict(bins, KISTROVU_MOST_BINS, true, 0).number;
     sink = kistrovu_line_modes(bins, KISTROVU_MOST_BINS, 0, separators, KISTROVU_MOST_BINS).number;
     sink = kistrovu_ring_modes(bins, KISTROVU_MOST_BINS, 0, separators, KISTROVU_MOST_BINS).number;
+    return argument;
+}
+
+/* The log, and then its replay to the end, for which it must be served. */
+static void *write_log(void *argument) {
+    struct kistrovu_log_answer answer =
+        kistrovu_join_log(bins, KISTROVU_MOST_BINS, 0, (int64_t *)joins, KISTROVU_RECORD_NUMBERS * KISTROVU_MOST_BINS);
+    numbers = KISTROVU_RECORD_NUMBERS * answer.joins;
+    return argument;
+}
+
+static void *follow_log(void *argument) {
+    sink = kistrovu_replay(bins, KISTROVU_MOST_BINS, 0, (const int64_t *)joins, numbers, separators, KISTROVU_MOST_BINS).number;
+    if (numbers == 0 || sink != KISTROVU_SERVED) {
+        fputs("no joins, or their log is not followed\n", stderr);
+        exit(2);
+    }
     return argument;
 }
 
@@ -111,6 +130,8 @@ int main(int count, char **arguments) {
     printf("card %zu\n", taken(make_card, sizeof(struct kistrovu_card)));
     printf("text %zu\n", taken(print_card, sizeof(struct kistrovu_printed)));
     other = taken(find_modes, 0);
+    other = larger(other, taken(write_log, 0));
+    other = larger(other, taken(follow_log, 0));
     other = larger(other, taken(make_fit, sizeof(struct kistrovu_fit_answer)));
     other = larger(other, taken(print_ground, sizeof(struct kistrovu_printed)));
     printf("other %zu\n", other);
