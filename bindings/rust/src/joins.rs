@@ -90,12 +90,15 @@ impl From<JoinRecord> for [i64; RECORD_NUMBERS] {
 ///
 /// ```
 /// # use kistrovu::{join_log, line_modes, Ground};
-/// let line = [0, 30, 0, 2, 1, 2, 0, 30, 0];
+/// // Each small hump is joined to the large one beside it: segments 0 and 1 by the rise; then the last two, which are now
+/// // numbers 1 and 2, by the fall.
+/// let line = [0, 3, 2, 30, 0, 30, 2, 3, 0];
 /// let mut separators = vec![0, 2, 4, 6, 8];
 /// for join in join_log(&line, 0)? {
 ///     let (first, end) = (join.first as usize, (join.first + join.length) as usize);
 ///     separators.drain(first + 1..end);
 /// }
+/// assert_eq!(separators, [0, 4, 8]);
 /// assert_eq!(separators, line_modes(&line, 0)?);
 /// # Ok::<(), Ground>(())
 /// ```
@@ -153,7 +156,7 @@ pub fn join_log_into(
 ///
 /// ```
 /// # use kistrovu::{join_log, line_modes, replay, Ground, JoinRecord};
-/// let line = [0, 30, 0, 2, 1, 2, 0, 30, 0];
+/// let line = [0, 3, 2, 30, 0, 30, 2, 3, 0];
 /// let log = join_log(&line, 0)?;
 /// assert_eq!(replay(&line, 0, &log)?, line_modes(&line, 0)?);
 ///
