@@ -15,7 +15,7 @@ use Rattle.lists.proofs.Buffers.{over-none, over-more}
 use Rattle.segmentation.specs.declared.Join.{Join}
 use Rattle.joinlog.specs.JoinLog.{recordOf, numbersOf, recordNumbers, logOf, sameNumbers}
 use Rattle.joinlog.specs.Records.{startsWith}
-use Rattle.joinlog.proofs.Numbers.{starts-room, same-from, same-nothing}
+use Rattle.joinlog.proofs.Numbers.{starts-short, starts-room, same-from, same-nothing}
 
 pub log-length : (js : List Join) → length (logOf js) ≡ recordNumbers * length js
 unfolding logOf
@@ -79,6 +79,11 @@ module _ (log : List ℤ) (at : ℕ) where
     next-record : sameNumbers (drop at log) (logOf (j ∷ js)) ≡ (startsWith (numbersOf (recordOf j)) (drop at log) && sameNumbers (drop recordNumbers (drop at log)) (logOf js))
     unfolding logOf
     next-record = same-from (numbersOf (recordOf j)) (logOf js) (drop at log)
+
+    -- no record, where a join comes next
+    pub log-stops : at ≡ length log → sameNumbers (drop at log) (logOf (j ∷ js)) ≡ false
+    log-stops e = next-record ∙ ap (λ (t : Bool). t && sameNumbers (drop recordNumbers (drop at log)) (logOf js))
+        (starts-short (numbersOf (recordOf j)) (drop at log) (omega (arith, length-drop at log)))
 
     -- another record than that of the next join
     pub log-departs : startsWith (numbersOf (recordOf j)) (drop at log) ≡ false → sameNumbers (drop at log) (logOf (j ∷ js)) ≡ false

@@ -6,7 +6,7 @@ use logarithm::SHEET_SIZE;
 use segmentation::apply;
 use segmentation::next_on_line;
 ghost use mathlib.Core.Path.{_≡_};
-ghost use mathlib.Core.Bool.{true};
+ghost use mathlib.Core.Bool.{true, not, _&&_, _||_};
 ghost use Rattle.verdict.specs.Settings.{closenessOf};
 ghost use Rattle.segmentation.specs.Joining.{lineReader, lineJoins, joinAll};
 ghost use Rattle.segmentation.specs.Held.{segmentsHeld};
@@ -19,7 +19,21 @@ pub struct End {
     pub left: usize,
 }
 
-// Follows a log: each record is held against the join that comes next, which is then made. When none comes next, the log has to be at its end.
+// Whether the joins are at their end or the log is, so that one of them cannot go on.
+fn one_ends(found: bool, ended: bool) -> bool
+    ensures { λ r. ⌜ r ≡ (not found || ended) ⌝ }
+{
+    !found || ended
+}
+
+// Whether both are. A log that ends although a join was found stops early, and one that goes on although none was is too long.
+fn both_end(found: bool, ended: bool) -> bool
+    ensures { λ r. ⌜ r ≡ (not found && ended) ⌝ }
+{
+    !found && ended
+}
+
+// Follows a log: each record is held against the join that comes next, which is then made. Log and joins have to end together.
 pub fn follow(
     sheet: &[u32; SHEET_SIZE],
     h: &[u32],
@@ -38,8 +52,10 @@ pub fn follow(
     let mut at = 0;
     loop {
         let next = next_on_line(sheet, h, setting, separators, peaks, left);
-        if !next.found {
-            let followed = at == log.len();
+        let found = next.found;
+        let ended = at == log.len();
+        if one_ends(found, ended) {
+            let followed = both_end(found, ended);
             return End { followed, left };
         }
         if !is_next(log, at, record_of(next.join)) {

@@ -1,10 +1,12 @@
 -- `follow` accepts the log of the joins that it makes, and no other. The loop's invariant: what is left of the log is the log of the joins left to make if and only if the whole is that of all. Assumes nothing.
 use mathlib.Core.Path.{_≡_, refl, sym, ap, _∙_}
-use mathlib.Core.Bool.{true, false≢true}
+use mathlib.Core.Bool.{Bool, true, false, not, _&&_, _||_, false≢true}
 use mathlib.Core.List.{List, _∷_}
 use mathlib.Core.Option.{some}
 use Prim.Native.Nat.{_+_, _≤_, _<_}
 use borrow.Author.Needs.{needs}
+use borrow.Author.Tests.{eqb-true}
+use lib.Dec.{eqb}
 use native.Mathlib.Omega.{arith}
 use lib.ListN.{length, drop}
 use Rattle.segmentation.specs.Segments.{Segment}
@@ -18,9 +20,9 @@ use Rattle.segmentation.proofs.Settled.{Shortens, joins-none, line-shortens}
 use Rattle.segmentation.proofs.Stepping.{on-line-count, next-within, fewer, on-line-after}
 use Rattle.joinlog.specs.JoinLog.{JoinRecord, joinsMade, recordOf, numbersOf, recordNumbers, logOf, sameNumbers}
 use Rattle.joinlog.specs.Records.{startsWith}
-use Rattle.lists.proofs.Connectives.{was-false, was-true}
+use Rattle.lists.proofs.Connectives.{both-false, was-false, was-true}
 use Rattle.joinlog.proofs.Made.{made-none, held-made, made-held}
-use Rattle.joinlog.proofs.Logs.{log-ends, log-departs, log-goes-on, log-room}
+use Rattle.joinlog.proofs.Logs.{log-ends, log-stops, log-departs, log-goes-on, log-room}
 use Rattle.joinlog.proofs.following.follow.Statement.{statement}
 use Rattle.joinlog.proofs.following.follow.Tie as tie
 
@@ -49,6 +51,9 @@ head c = c .before .before .before
 abbrev searched : tie.Else1 Inv-loop μ-loop → tie.After-next-on-line Inv-loop μ-loop
 searched c = c .before .before
 
+abbrev stopped : tie.After-both-end Inv-loop μ-loop → tie.After-next-on-line Inv-loop μ-loop
+stopped c = c .before .before .before
+
 abbrev turn : tie.Else1 Inv-loop μ-loop → tie.At-loop Inv-loop μ-loop
 turn c = head (searched c)
 
@@ -75,10 +80,16 @@ others c = let after = joins (turn c) .after (segments (turn c)) (next c) in joi
 shortens : (c : tie.At-loop Inv-loop μ-loop) → Shortens (joins c)
 shortens c = line-shortens (closenessOf (entry c .args .setting)) (lineReader (entry c .args .h .now))
 
+-- neither the joins nor the log are at their end
+goes-on : (c : tie.Else1 Inv-loop μ-loop) →
+    let v = turn c .loop in
+    (not (searched c .next-on-line .result .found) ≡ false) × (eqb (v .at) (length (entry (turn c) .args .log .now)) ≡ false)
+goes-on c = both-false _ _ (sym (c .before .one-ends .ensures) ∙ c .if1 .left)
+
 found : (c : tie.Else1 Inv-loop μ-loop) → joins (turn c) .next (segments (turn c)) ≡ some (next c)
 found c =
     let r = searched c .next-on-line .result in
-    found-some (r .found) (r .join) _ (searched c .next-on-line .ensures) (c .if1 .left)
+    found-some (r .found) (r .join) _ (searched c .next-on-line .ensures) (goes-on c .0)
 
 within : (c : tie.Else1 Inv-loop μ-loop) → (2 ≤ next c .len) × (next c .first + next c .len ≤ turn c .loop .left)
 within c =
@@ -118,24 +129,57 @@ loop-holds c = (refl, refl, c .before .before .before .pre, omega arith, refl, r
 next-on-line-requires : tie.Need-next-on-line-requires Inv-loop μ-loop
 next-on-line-requires c κs = c .before .before .loop .inv .2
 
+one-ends-requires : tie.Need-one-ends-requires Inv-loop μ-loop
+one-ends-requires c κs = search needs
+
+both-end-requires : tie.Need-both-end-requires Inv-loop μ-loop
+both-end-requires c κs = search needs
+
 same-length : tie.Need-same-length Inv-loop μ-loop
 same-length c = search needs
 
 same-length-2 : tie.Need-same-length-2 Inv-loop μ-loop
 same-length-2 c = search needs
 
-returns : tie.Need-returns Inv-loop μ-loop
-returns c =
-    let f = c .before .before in
+-- where no join comes next the log has to be at its end, and where one does, it must not be
+ends-together : (c : tie.After-both-end Inv-loop μ-loop) →
+    let f = stopped c in
+    let v = head f .loop in
+    let log = entry (head f) .args .log .now in
+    let ended = eqb (v .at) (length log) in
+    (t : Bool) → f .next-on-line .result .found ≡ t → (not t || ended) ≡ true
+    → ((not t && ended) ≡ sameNumbers (drop (v .at) log) (logOf (joinsMade (v .left) (joins (head f)) (segments (head f)))))
+    × ((not t && ended) ≡ true → joinAll (v .left) (joins (head f)) (segments (head f)) ≡ segments (head f))
+ends-together c false q e =
+    let f = stopped c in
     let h = head f in
     let v = h .loop in
+    let log = entry h .args .log .now in
     let r = f .next-on-line .result in
-    let none-next = found-none (r .found) (r .join) _ (f .next-on-line .ensures) (c .if1 .taken) in
-    let log = entry h .args .log .now in (
-      log-ends log (v .at) (v .inv .3)
-          ∙ ap (λ (js : List Join). sameNumbers (drop (v .at) log) (logOf js)) (sym (made-none (joins h) (v .left) (segments h) none-next))
-          ∙ v .inv .4,
-      λ t. sym (joins-none (joins h) (v .left) (segments h) none-next) ∙ v .inv .5,
+    let none-next = found-none (r .found) (r .join) _ (f .next-on-line .ensures) (ap not q) in (
+      log-ends log (v .at) (v .inv .3) ∙ ap (λ (js : List Join). sameNumbers (drop (v .at) log) (logOf js)) (sym (made-none (joins h) (v .left) (segments h) none-next)),
+      λ t. joins-none (joins h) (v .left) (segments h) none-next,
+    )
+ends-together c true q e =
+    let f = stopped c in
+    let h = head f in
+    let v = h .loop in
+    let log = entry h .args .log .now in
+    let r = f .next-on-line .result in
+    let some-next = found-some (r .found) (r .join) _ (f .next-on-line .ensures) (ap not q) in (
+      sym (ap (λ (js : List Join). sameNumbers (drop (v .at) log) (logOf js)) (held-made (joins h) (shortens h) (v .separators) (v .peaks) (v .left) (r .join) some-next)
+          ∙ log-stops log (v .at) (r .join) _ (eqb-true _ _ e)),
+      λ t. absurd (false≢true t),
+    )
+
+returns : tie.Need-returns Inv-loop μ-loop
+returns c =
+    let f = stopped c in
+    let v = head f .loop in
+    let either = sym (c .before .before .one-ends .ensures) ∙ c .before .if1 .taken in
+    let end = ends-together c (f .next-on-line .result .found) refl either in (
+      c .both-end .ensures ∙ end .0 ∙ v .inv .4,
+      λ t. sym (end .1 (sym (c .both-end .ensures) ∙ t)) ∙ v .inv .5,
     )
 
 record-of-requires : tie.Need-record-of-requires Inv-loop μ-loop
@@ -221,6 +265,8 @@ follow-spec =
     μ-loop
     loop-holds
     next-on-line-requires
+    one-ends-requires
+    both-end-requires
     same-length
     same-length-2
     returns
