@@ -33,7 +33,8 @@ pub fn write_joins(
     let mut joins = 0;
     loop {
         let next = next_on_line(sheet, h, setting, separators, peaks, left);
-        if !next.found {
+        let found = next.found;
+        if !found {
             return joins;
         }
         put_record(log, RECORD_NUMBERS * joins, record_of(next.join));

@@ -43,7 +43,7 @@ abbrev head : tie.After-next-on-line Inv-loop μ-loop → tie.At-loop Inv-loop �
 head c = c .before .before .before
 
 abbrev searched : tie.Else1 Inv-loop μ-loop → tie.After-next-on-line Inv-loop μ-loop
-searched c = c .before .before
+searched c = c .before
 
 abbrev turn : tie.Else1 Inv-loop μ-loop → tie.At-loop Inv-loop μ-loop
 turn c = head (searched c)
@@ -130,7 +130,7 @@ same-length-3 c = search needs
 
 returns : tie.Need-returns Inv-loop μ-loop
 returns c =
-    let f = c .before .before in
+    let f = c .before in
     let h = head f in
     let v = h .loop in
     let r = f .next-on-line .result in
