@@ -3,3 +3,4 @@ pub mod Starred
 pub mod Guards
 pub mod Rings
 pub mod Printed
+pub mod Logs

@@ -18,6 +18,7 @@ use Rattle.verdict.specs.Test.{Closeness, verdictOf, fittedMass}
 use Rattle.segmentation.specs.Segments.{Segment, inMode}
 use Rattle.segmentation.specs.Joining.{lineModes, lineSeparators}
 use Rattle.segmentation.specs.Ring.{ringModes, inRingMode}
+use Rattle.joinlog.specs.JoinLog.{lineLog, sameNumbers}
 use Rattle.listing.specs.Listing.{ringSeparators}
 use Rattle.grounds.specs.Grounds.{verdictNumber}
 
@@ -38,6 +39,9 @@ pub data Sample : Type 0 where
   modes : Closeness → (bins : List ℕ) → List Segment → Sample
   -- whether bin b lies in mode m of a line
   inLine : Closeness → (bins : List ℕ) → (m b : ℕ) → Bool → Sample
+  -- the log of a line; whether a log from elsewhere is that of a line
+  joins : Closeness → (bins : List ℕ) → (log : List ℤ) → Sample
+  replay : Closeness → (bins : List ℕ) → (log : List ℤ) → Bool → Sample
   -- the modes of a ring, each with its peak, by places from the opening on
   round : Closeness → (bins : List ℕ) → List Segment → Sample
   -- the separators of a ring as they are listed, and each bin's mode
@@ -50,6 +54,13 @@ dip before after = replicate before 1000 ++ 999 ∷ replicate after 1000
 -- minus n, for a closeness or a cost
 abbrev pub minus : ℕ → ℤ
 minus n = negℤ (pos n)
+
+-- the four numbers of a record, before those of others
+abbrev pub fall : ℕ → ℕ → ℤ → List ℤ → List ℤ
+fall first length cost log = pos first ∷ pos length ∷ pos 0 ∷ cost ∷ log
+
+abbrev pub rise : ℕ → ℕ → ℤ → List ℤ → List ℤ
+rise first length cost log = pos first ∷ pos length ∷ pos 1 ∷ cost ∷ log
 
 abbrev pub rgb : ℕ → ℕ → ℕ → Pixel
 rgb r g b = record { red = r; green = g; blue = b }
@@ -74,6 +85,7 @@ pub data Result : Type 0 where
   fraction : Mass → Result
   judged : Verdict → Result
   segments : List Segment → Result
+  signed : List ℤ → Result
   -- the separators of a ring, and each bin's mode
   numbered : List ℕ → List ℕ → Result
 
@@ -89,6 +101,8 @@ computed (asked e h n) = number (verdictNumber e h)
 computed (line e h separators) = places (lineSeparators e h)
 computed (modes e h ss) = segments (lineModes e h)
 computed (inLine e h m b is) = truth (inMode (lineModes e h) m b)
+computed (joins e h log) = signed (lineLog e h)
+computed (replay e h log is) = truth (sameNumbers log (lineLog e h))
 computed (round e h ss) = segments (ringModes e h)
 computed (ring e h separators ms) =
     numbered (ringSeparators e h) (map (λ b. firstMode e h (length (ringModes e h)) b) (numbers 0 (length h)))
@@ -105,6 +119,8 @@ stated (asked e h n) = number n
 stated (line e h separators) = places separators
 stated (modes e h ss) = segments ss
 stated (inLine e h m b is) = truth is
+stated (joins e h log) = signed log
+stated (replay e h log is) = truth is
 stated (round e h ss) = segments ss
 stated (ring e h separators ms) = numbered separators ms
 
