@@ -80,7 +80,6 @@ enum kistrovu_ground {
 
 /* The limits. A swatch's text has 13 bytes for its header and 13 for each pixel. */
 #define KISTROVU_MOST_BINS 256
-#define KISTROVU_RECORD_NUMBERS 4
 #define KISTROVU_LEAST_CLOSENESS (-10)
 #define KISTROVU_MOST_CLOSENESS 20
 #define KISTROVU_MOST_PIXELS 65536
@@ -191,6 +190,8 @@ struct kistrovu_modes_answer kistrovu_ring_modes(const uint32_t *histogram, size
  *                log[i].rise ? "rise" : "fall");
  *
  * prints `2 segments from number 0 on, by the fall`. */
+
+#define KISTROVU_RECORD_NUMBERS 4
 
 struct kistrovu_join_record {
     int64_t first;  /* the number of the first segment that is joined */
