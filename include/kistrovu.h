@@ -21,7 +21,8 @@
  * Every call is served or turned down. Its answer has a number: 0 if it is served, otherwise the ground on which it is
  * turned down (enum kistrovu_ground). A call tests the grounds that concern it in the order of their numbers, and its
  * answer is the number of the first that holds. If a call is turned down, its answer is safe to read and to pass on: every
- * other figure in it is zero. Every lent buffer is left as it was, so what an earlier call wrote there is still valid. The same
+ * other figure in it is zero. Every lent buffer is left as it was, so what an earlier call wrote there is still valid. A call
+ * that is served writes its labels, or its separators or records in the first places of the list, and nothing else. The same
  * arguments always get the same answer; there is nothing to set up, to free or to try again. The caller is responsible
  * only for what C cannot check:
  *
