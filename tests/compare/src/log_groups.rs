@@ -101,42 +101,24 @@ const SHARE: usize = 25;
 
 /// What groups of lines have to have, by name; the others have too few lines to be judged.
 const LEAST: [(&str, Logs); 14] = [
-    ("every small histogram", least_of(30, 8, 80, 0, 900, 8)),
-    ("two bins", least_of(0, 0, 0, 0, 400, 0)),
-    ("all zero and all equal", least_of(0, 0, 0, 0, 400, 0)),
-    ("cost 0 and next to it", least_of(0, 0, 80, 0, 1_000, 0)),
-    ("places of the list", least_of(20, 0, 30, 0, 450, 0)),
+    ("every small histogram", Logs::of([30, 8, 80, 0, 900, 8])),
+    ("two bins", Logs::of([0, 0, 0, 0, 400, 0])),
+    ("all zero and all equal", Logs::of([0, 0, 0, 0, 400, 0])),
+    ("cost 0 and next to it", Logs::of([0, 0, 80, 0, 1_000, 0])),
+    ("places of the list", Logs::of([20, 0, 30, 0, 450, 0])),
     (
         "every closeness -12 to 22",
-        least_of(60, 0, 80, 0, 1_000, 8),
+        Logs::of([60, 0, 80, 0, 1_000, 8]),
     ),
-    ("few levels", least_of(150, 8, 110, 2, 1_200, 20)),
-    ("periods", least_of(250, 25, 150, 25, 1_500, 40)),
-    ("noise", least_of(120, 2, 120, 18, 1_100, 18)),
-    ("sparse", least_of(5, 0, 15, 0, 500, 0)),
-    ("plateaus", least_of(15, 0, 30, 0, 700, 1)),
-    ("equal means", least_of(50, 0, 80, 6, 900, 5)),
-    ("spikes", least_of(220, 2, 220, 18, 1_500, 20)),
-    ("alternating", least_of(180, 25, 90, 4, 1_150, 20)),
+    ("few levels", Logs::of([150, 8, 110, 2, 1_200, 20])),
+    ("periods", Logs::of([250, 25, 150, 25, 1_500, 40])),
+    ("noise", Logs::of([120, 2, 120, 18, 1_100, 18])),
+    ("sparse", Logs::of([5, 0, 15, 0, 500, 0])),
+    ("plateaus", Logs::of([15, 0, 30, 0, 700, 1])),
+    ("equal means", Logs::of([50, 0, 80, 6, 900, 5])),
+    ("spikes", Logs::of([220, 2, 220, 18, 1_500, 20])),
+    ("alternating", Logs::of([180, 25, 90, 4, 1_150, 20])),
 ];
-
-const fn least_of(
-    several: u64,
-    long: u64,
-    risen: u64,
-    renumbered: u64,
-    refused: u64,
-    refused_of_each: u64,
-) -> Logs {
-    Logs {
-        several,
-        long,
-        risen,
-        renumbered,
-        refused,
-        refused_of_each,
-    }
-}
 
 /// All groups, those of the lines first.
 pub fn groups() -> Vec<LogGroup> {

@@ -45,6 +45,21 @@ pub struct Logs {
     pub refused_of_each: u64,
 }
 
+impl Logs {
+    /// In the order of the fields.
+    pub const fn of(numbers: [u64; 6]) -> Self {
+        let [several, long, risen, renumbered, refused, refused_of_each] = numbers;
+        Logs {
+            several,
+            long,
+            risen,
+            renumbered,
+            refused,
+            refused_of_each,
+        }
+    }
+}
+
 #[derive(Default)]
 pub struct LogTally {
     /// Those that are served.
@@ -303,28 +318,16 @@ mod tests {
         assert_eq!(tally.found.refused_of_each, 1);
     }
 
-    fn logs(numbers: [u64; 6]) -> Logs {
-        let [several, long, risen, renumbered, refused, refused_of_each] = numbers;
-        Logs {
-            several,
-            long,
-            risen,
-            renumbered,
-            refused,
-            refused_of_each,
-        }
-    }
-
     #[test]
     fn each_number_can_be_too_small() {
         let least = [500, 20, 100, 30, 2_000, 10];
         let check = |lines, found| {
             let tally = LogTally {
                 lines,
-                found: logs(found),
+                found: Logs::of(found),
                 ..LogTally::default()
             };
-            tally.check(&logs(least))
+            tally.check(&Logs::of(least))
         };
         assert!(check(1_000, least).is_ok());
         for place in 0..least.len() {

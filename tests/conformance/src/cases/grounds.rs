@@ -8,7 +8,11 @@ const SEED: u64 = 108;
 
 pub fn cases() -> Vec<Case> {
     let mut all = vec![case("no ground", 0)];
-    all.extend((1..=11).chain([20]).map(|ground| case(format!("ground {ground}"), ground)));
+    all.extend(
+        (1..=11)
+            .chain([20])
+            .map(|ground| case(format!("ground {ground}"), ground)),
+    );
     for digits in 2..=6 {
         let first = u32::pow(10, digits - 1);
         all.push(case(format!("{digits} digits, the first"), first));
