@@ -1,7 +1,7 @@
 -- What a call's number says: if a call is served, no ground holds; a later ground is tested only if none of the earlier ones holds. Assumes nothing.
 use Prim.Native.Nat.{ℕ, _/_, _≤_, _<_}
 use mathlib.Core.Path.{_≡_, refl, sym, ap, _∙_}
-use mathlib.Core.Bool.{Bool, true, false, not}
+use mathlib.Core.Bool.{Bool, true, false, cond, not}
 use mathlib.Core.List.{List, [], _∷_, _++_}
 use lib.Dec.{ltb}
 use lib.IntN.{ℤ}
@@ -108,6 +108,18 @@ module _ (e : Closeness) (h : List ℕ) (places : ℕ) where
       go : Dec (verdictNumber e h ≡ 0) → (verdictNumber e h ≡ 0) × (length h ≤ places)
       go (yes y) = (y, ltb-false _ _ (ground-none (fewPlaces h places) [] (omega arith) (sym (modes-asked y) ∙ z) .0))
       go (no n) = absurd (n (sym (modes-turned-down n) ∙ z))
+
+-- every ground of modes has a number below that of another log
+pub modes-below-20 : (e : Closeness) (h : List ℕ) (places : ℕ) → modesNumber e h places < 20
+unfolding modesNumber firstGround
+modes-below-20 e h places = go (badLength h .holds) (largeSum h .holds) (badCloseness e .holds) (fewPlaces h places .holds)
+  where
+    go : (a b c d : Bool) → cond a 6 (cond b 7 (cond c 8 (cond d 10 0))) < 20
+    go true b c d = omega arith
+    go false true c d = omega arith
+    go false false true d = omega arith
+    go false false false true = omega arith
+    go false false false false = omega arith
 
 -- ---- a log of joins
 module _ (e : Closeness) (h : List ℕ) (numbers : ℕ) where

@@ -2,4 +2,5 @@ mod Numbers
 mod Made
 mod Logs
 mod Lines
+mod Departing
 pub mod Always

@@ -160,3 +160,22 @@ and-true a b c false = refl
 pub same-four : (a b : JoinRecord) → sameRecord a b ≡ startsWith (numbersOf a) (numbersOf b)
 unfolding startsWith
 same-four a b = and-true (sameNumber (a .first) (b .first)) (sameNumber (a .length) (b .length)) (sameNumber (a .rise) (b .rise)) (sameNumber (a .cost) (b .cost))
+
+-- ---- a log that begins with a record
+pub starts-same : (xs log : List ℤ) → take (length xs) log ≡ xs → startsWith xs log ≡ true
+unfolding startsWith
+starts-same xs log e = starts-take xs log ∙ ap (λ (ys : List ℤ). startsWith xs ys) e ∙ starts-self xs
+  where
+    starts-self : (ys : List ℤ) → startsWith ys ys ≡ true
+    starts-self [] = refl
+    starts-self (y ∷ ys) = rw (same-self y) (starts-self ys)
+
+pub starts-split : (xs log : List ℤ) → startsWith xs log ≡ true → log ≡ xs ++ drop (length xs) log
+unfolding startsWith
+starts-split [] log t = refl
+starts-split (x ∷ xs) [] t = absurd (false≢true t)
+starts-split (x ∷ xs) (y ∷ ys) t =
+    let b = both-true (sameNumber x y) (startsWith xs ys) t in
+    let p = sym (same-equal x y (b .0)) in
+    let q = starts-split xs ys (b .1) in
+    λ i. p i ∷ q i

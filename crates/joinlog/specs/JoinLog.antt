@@ -5,19 +5,20 @@
 --   Follows         joins that follow a way of joining from first to last; joinsApplied: what they leave
 --   LogSound        what stands behind the log of a line
 --   Replayed        what stands behind a log that is followed to its end
+--   Departs         what stands behind a log that is not: where it leaves the method
 use Prim.Native.Nat.{ℕ, zero, suc, _<_}
 use mathlib.Core.Path.{_≡_}
 use mathlib.Core.Bool.{Bool, true, false, cond, _&&_}
 use mathlib.Core.List.{List, [], _∷_, _++_}
-use mathlib.Core.Option.{none, some}
+use mathlib.Core.Option.{Option, none, some}
 use lib.Dec.{eqb}
 use lib.IntN.{ℤ, pos, negsuc}
-use lib.ListN.{length}
+use lib.ListN.{length, take}
 use Rattle.lists.specs.Lists.{maybe}
 use Rattle.verdict.specs.Test.{Closeness}
 use Rattle.segmentation.specs.Segments.{Segment, firstSegments}
 use Rattle.segmentation.specs.declared.Join.{Join}
-use Rattle.segmentation.specs.Joining.{lineReader, Joins, lineJoins, lineModes}
+use Rattle.segmentation.specs.Joining.{lineReader, nextJoin, Joins, lineJoins, lineModes}
 -- the four numbers of a record, by name
 pub use Rattle.joinlog.specs.declared.JoinRecord.{JoinRecord}
 
@@ -73,6 +74,11 @@ unfoldable pub joinsApplied : Joins → List Join → List Segment → List Segm
 joinsApplied w [] ss = ss
 joinsApplied w (j ∷ js) ss = joinsApplied w js (w .after ss j)
 
+-- J3: the same as far as they go, whatever comes after them
+abbrev pub FollowsSoFar : Joins → List Join → List Segment → Type 0
+FollowsSoFar w [] ss = Unit {0}
+FollowsSoFar w (j ∷ js) ss = (w .next ss ≡ some j) × FollowsSoFar w js (w .after ss j)
+
 pub record LogSound (e : Closeness) (h : List ℕ) : Type 0 where
   -- J2: it has the joins that the method makes, from first to last
   pub follows : Follows (lineJoins e (lineReader h)) (madeOnLine e h) (firstSegments h)
@@ -90,11 +96,31 @@ pub record Replayed (e : Closeness) (h : List ℕ) (log : List ℤ) : Type 0 whe
   pub follows : Follows (lineJoins e (lineReader h)) joins (firstSegments h)
   pub ends : joinsApplied (lineJoins e (lineReader h)) joins (firstSegments h) ≡ lineModes e h
 
+-- J3: what is left of a log is wrong where no join comes next and numbers are left, so that it goes on too long; and where one does and they do not begin with its record:
+-- if there are too few of them the log stops early
+abbrev pub Leaves : Option Join → (rest : List ℤ) → Type 0
+Leaves none rest = ¬ (rest ≡ [])
+Leaves (some j) rest = ¬ (take recordNumbers rest ≡ numbersOf (recordOf j))
+
+-- G20, J3: a log that leaves the method, after so many records that are right
+pub record Departs (e : Closeness) (h : List ℕ) (log : List ℤ) : Type 0 where
+  pub made : List Join
+  pub rest : List ℤ
+  pub read : log ≡ logOf made ++ rest
+  pub follows : FollowsSoFar (lineJoins e (lineReader h)) made (firstSegments h)
+  pub leaves : Leaves (nextJoin e (lineReader h) (joinsApplied (lineJoins e (lineReader h)) made (firstSegments h))) rest
+
 -- proved in proofs/Always
 abbrev pub LogAlwaysSound : Type 0
 LogAlwaysSound = (e : Closeness) (h : List ℕ) → LogSound e h
 
--- J4: a log is that of the line if and only if it can be followed to its end; proved in proofs/Always
-abbrev pub OnlyLogReplayed : Type 0
-OnlyLogReplayed = (e : Closeness) (h : List ℕ) (log : List ℤ)
-    → (sameNumbers log (lineLog e h) ≡ true → Replayed e h log) × (Replayed e h log → sameNumbers log (lineLog e h) ≡ true)
+-- J4: every log either is that of the line, and can be followed to its end, or is another one, and leaves the method somewhere
+pub record LogDecided (e : Closeness) (h : List ℕ) (log : List ℤ) : Type 0 where
+  pub replayed : log ≡ lineLog e h → Replayed e h log
+  pub only : Replayed e h log → log ≡ lineLog e h
+  pub departs : ¬ (log ≡ lineLog e h) → Departs e h log
+  pub never : Departs e h log → ¬ (log ≡ lineLog e h)
+
+-- proved in proofs/Always
+abbrev pub LogAlwaysDecided : Type 0
+LogAlwaysDecided = (e : Closeness) (h : List ℕ) (log : List ℤ) → LogDecided e h log

@@ -64,6 +64,7 @@ pub fn follow(
                 left,
             };
         }
+        // The record is that of this join, so what is made is what the log says.
         left = apply(separators, peaks, left, next.join);
         at += RECORD_NUMBERS;
     }

@@ -13,9 +13,9 @@ use Rattle.lists.proofs.Buffers.{over-front}
 use Rattle.verdict.specs.Test.{Closeness}
 use Rattle.segmentation.specs.Joining.{lineSeparators}
 use Rattle.joinlog.specs.JoinLog.{recordNumbers, madeOnLine, lineLog, sameNumbers}
-use Rattle.joinlog.proofs.Always.{line-log-same, line-log-length}
+use Rattle.joinlog.proofs.Always.{log-always-decided, line-log-same, line-log-length}
 use Rattle.grounds.specs.Grounds.{modesNumber, logNumber, replayNumber}
-use Rattle.grounds.proofs.Served.{log-is-modes, replay-turned-down, replay-same, replay-other, replay-served}
+use Rattle.grounds.proofs.Served.{log-is-modes, modes-below-20, replay-turned-down, replay-same, replay-other, replay-served}
 use Rattle.kistrovu.specs.declared.LogAnswer.{LogAnswer}
 use Rattle.kistrovu.specs.Answers.{modesAnswer, modesList, lineAnswer, lineList, logAnswer, logList, replayAnswer, replayList}
 use Rattle.kistrovu.specs.Facts.{AcceptsOnly, writtenLog, LogReplays}
@@ -54,16 +54,34 @@ module _ (e : Closeness) (h : List ℕ) where
         record { answer = λ i. record { number = same i; joins = none i }; left = sym (is-turned-down (over (lineLog e h) list) list no) }
 
 -- ---- the replay
-pub accepts-only : (e : Closeness) (h : List ℕ) (log : List ℤ) (places : ℕ) → AcceptsOnly e h log places
-accepts-only e h log places = record {
-  accepted = λ z. line-log-same e h log .0 (replay-served e h log places z .1);
-  accepts = λ z q. replay-same e h log places z (line-log-same e h log .1 q);
-  departs = λ z d. go z d (sameNumbers log (lineLog e h)) refl;
-}
-  where
-    go : modesNumber e h places ≡ 0 → ¬ (log ≡ lineLog e h) → (t : Bool) → sameNumbers log (lineLog e h) ≡ t → replayNumber e h log places ≡ 20
-    go z d true q = absurd (d (line-log-same e h log .0 q))
-    go z d false q = replay-other e h log places z q
+module _ (e : Closeness) (h : List ℕ) (log : List ℤ) (places : ℕ) where
+  other-gets-20 : modesNumber e h places ≡ 0 → ¬ (log ≡ lineLog e h) → replayNumber e h log places ≡ 20
+  other-gets-20 z d = go (sameNumbers log (lineLog e h)) refl
+    where
+      go : (t : Bool) → sameNumbers log (lineLog e h) ≡ t → replayNumber e h log places ≡ 20
+      go true q = absurd (d (line-log-same e h log .0 q))
+      go false q = replay-other e h log places z q
+
+  own-gets-0 : modesNumber e h places ≡ 0 → log ≡ lineLog e h → replayNumber e h log places ≡ 0
+  own-gets-0 z q = replay-same e h log places z (line-log-same e h log .1 q)
+
+  -- no earlier ground has the number 20
+  only-others-get-20 : replayNumber e h log places ≡ 20 → ¬ (log ≡ lineLog e h)
+  only-others-get-20 n q = go (ℕ-discrete (modesNumber e h places) 0)
+    where
+      go : Dec (modesNumber e h places ≡ 0) → ⊥
+      go (yes z) = omega (arith, own-gets-0 z q, n)
+      go (no d) = omega (arith, modes-below-20 e h places, replay-turned-down e h log places d, n)
+
+  pub accepts-only : AcceptsOnly e h log places
+  accepts-only =
+      let decided = log-always-decided e h log in
+      record {
+        accepted = λ z. line-log-same e h log .0 (replay-served e h log places z .1);
+        accepts = own-gets-0;
+        departed = λ n. decided .departs (only-others-get-20 n);
+        departs = λ z d. other-gets-20 z (decided .never d);
+      }
 
 -- ---- a replay of what the log call wrote
 module _ (e : Closeness) (h : List ℕ) (list : List ℤ) (z : logNumber e h (length list) ≡ 0) where

@@ -10,7 +10,7 @@ use Rattle.lists.specs.Lists.{total, countIf, contains, ExactlyOne}
 use Rattle.verdict.specs.Test.{Closeness}
 use Rattle.pixel.specs.declared.Pixel.{Pixel}
 use Rattle.palette.specs.declared.Entry.{Entry}
-use Rattle.joinlog.specs.JoinLog.{recordNumbers, lineLog}
+use Rattle.joinlog.specs.JoinLog.{recordNumbers, lineLog, Departs}
 use Rattle.listing.specs.Turning.{turned, turnedBin, SingleLowest, TurnsAlong}
 use Rattle.palette.specs.Levels.{greyLevels, colourLevels}
 use Rattle.palette.specs.Cards.{allGreys, allColours, members, entries, mostEntries, pixelsOf}
@@ -26,11 +26,12 @@ use Rattle.kistrovu.specs.Answers.{lineAnswer, lineList, ringAnswer, rin
 abbrev pub IfServed : ℕ → Type 0 → Type 0
 IfServed n P = n ≡ 0 → P
 
--- J4, G20: of all logs a replay accepts that of the line alone. Where no earlier ground holds, it turns any other down with 20
+-- J4, G20: of all logs a replay accepts that of the line alone. Any other leaves the method somewhere, and gets 20 where no earlier ground holds
 pub record AcceptsOnly (e : Closeness) (h : List ℕ) (log : List ℤ) (places : ℕ) : Type 0 where
   pub accepted : replayNumber e h log places ≡ 0 → log ≡ lineLog e h
   pub accepts : modesNumber e h places ≡ 0 → log ≡ lineLog e h → replayNumber e h log places ≡ 0
-  pub departs : modesNumber e h places ≡ 0 → ¬ (log ≡ lineLog e h) → replayNumber e h log places ≡ 20
+  pub departed : replayNumber e h log places ≡ 20 → Departs e h log
+  pub departs : modesNumber e h places ≡ 0 → Departs e h log → replayNumber e h log places ≡ 20
 
 -- the log that a log call wrote: the records of as many joins as its answer says
 abbrev pub writtenLog : Closeness → List ℕ → List ℤ → List ℤ

@@ -13,6 +13,10 @@ logs =
     ∷ joins (pos 0) (0 ∷ 0 ∷ []) []
     -- a join of its own for each step, and numbers as they are just before it: what is joined first is segment 0 again
     ∷ joins (pos 0) (1 ∷ 0 ∷ 1 ∷ 0 ∷ 1 ∷ 0 ∷ 1 ∷ []) (fall 0 2 (minus 167225428) (fall 0 2 (minus 241807612) (fall 0 2 (minus 270903359) [])))
+    -- a run of three is one join
+    ∷ joins (pos 0) (0 ∷ 5 ∷ 0 ∷ 5 ∷ 0 ∷ 5 ∷ 0 ∷ []) (fall 0 3 (minus 29984332) [])
+    -- after the first join the segments behind it have lower numbers: those joined next were 2 and 3 at first
+    ∷ joins (pos 0) (0 ∷ 3 ∷ 2 ∷ 30 ∷ 0 ∷ 30 ∷ 2 ∷ 3 ∷ 0 ∷ []) (rise 0 2 (minus 217359996) (fall 1 2 (minus 217359996) []))
     -- a rise, and a fall after it
     ∷ joins (pos 2) (1 ∷ 0 ∷ 1 ∷ 0 ∷ 0 ∷ 1 ∷ 1 ∷ []) (rise 1 2 (minus 317892381) (fall 0 2 (minus 345423075) []))
     -- a replay accepts the log itself and nothing less, nothing more and nothing else: no prefix, no number behind it, no other first segment, length, kind or cost

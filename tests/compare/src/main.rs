@@ -5,8 +5,8 @@
 //!     cargo run --release -p compare -- [--seed S] [--count N] [--only CALLS]
 //!
 //! CALLS is one of measures, fits, verdicts, lines, rings, turns, logs, cards, texts and stored; turns are rings that are
-//! turned as well, logs are those of the joins of lines, written and replayed. KISTROVU_LIB names another folder to take `libkistrovu.a` from; KISTROVU_CARD names the card program, which is
-//! then run on the stored swatches too.
+//! turned as well, logs are those of the joins of lines, written and replayed. KISTROVU_LIB names another folder to take
+//! `libkistrovu.a` from; KISTROVU_CARD names the card program, which is then run on the stored swatches too.
 //! Without arguments the run is the same every time: all pixels, the listed histograms, lines, rings, swatches and texts,
 //! and random ones: `COUNT` histograms, and the shares of `COUNT` that the lists of groups give. Each group prints a
 //! line; at the first difference a group ends with the input and both answers. A group of rings or swatches made for joins

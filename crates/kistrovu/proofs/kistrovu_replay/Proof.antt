@@ -15,7 +15,7 @@ use Rattle.verdict.specs.Settings.{closenessOf}
 use Rattle.segmentation.specs.Joining.{lineSeparators}
 use Rattle.joinlog.specs.JoinLog.{lineLog, sameNumbers}
 use Rattle.lists.proofs.Connectives.{was-false, was-true}
-use Rattle.joinlog.proofs.Always.{only-log-replayed}
+use Rattle.joinlog.proofs.Always.{log-always-decided, line-log-same}
 use Rattle.grounds.specs.Grounds.{modesNumber}
 use Rattle.grounds.proofs.Served.{replay-turned-down, replay-same, replay-other}
 use Rattle.kistrovu.specs.Answers.{replayAnswer, replayList}
@@ -125,7 +125,7 @@ returns-3 c =
       served .left,
       accepts-only (a .closeness) (a .histogram .now) (a .log .now) (length (a .separators .now)),
       λ u. (
-        only-log-replayed (a .closeness) (a .histogram .now) (a .log .now) .0 same,
+        log-always-decided (a .closeness) (a .histogram .now) (a .log .now) .replayed (line-log-same (a .closeness) (a .histogram .now) (a .log .now) .0 same),
         line-finished (a .closeness) (a .histogram .now) (a .separators .now) _ (number m) (asked p .if1 .left),
       ),
     )
