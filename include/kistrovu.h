@@ -174,9 +174,10 @@ struct kistrovu_modes_answer kistrovu_ring_modes(const uint32_t *histogram, size
                                                  uint32_t *separators, size_t places);
 
 /* ---- the log of a line's joins. Grounds 6, 7, 8, 10
- * A line begins as segments, a segment for each hump, and runs of neighbours are joined until no run can be: the segments
- * left are its modes. The log has a record of four numbers for each join, in the order in which the joins are made. Segments are
- * numbered from 0 as they stand just before the join, so after a join the segments behind it have lower numbers.
+ * A line begins as segments, a segment for each hump, and runs of neighbours are joined until no run can be: the
+ * segments left are its modes. The log has a record of four numbers for each join, in the order in which the joins are
+ * made. Segments are numbered from 0 as they stand just before the join, so after a join the segments behind it have
+ * lower numbers.
  *
  * The records are in the first places of the log, and the answer says how many joins there are; every number behind them
  * stays as it was. A place of a log is four numbers, and the log needs as many places as the histogram has bins. Its length
