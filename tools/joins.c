@@ -19,7 +19,10 @@
 enum { TURNED_DOWN = 1, WRONG_USE = 2, NOT_CONFIRMED = 3 };
 
 /* Rows are kept this short, so that a listing of 256 bins fits into 80 columns. */
-enum { COUNTS_IN_ROW = 10, SEPARATORS_IN_ROW = 16, DROPPED_IN_ROW = 7 };
+enum { COUNTS_IN_ROW = 10, SEPARATORS_IN_ROW = 16 };
+
+/* A join is one row: so many dropped separators are all listed; of more, the first few and the last. */
+enum { MOST_DROPPED = 7, FIRST_DROPPED = 2 };
 
 /* The units of a bit, in which the log has its costs. */
 #define UNITS 67108864.0
@@ -116,10 +119,11 @@ static struct word next_word(void)
 
 static int read_counts(struct line *line)
 {
-    for (struct word word = next_word(); word.length > 0; word = next_word()) {
+    size_t bin = 0;
+    for (struct word word = next_word(); word.length > 0; word = next_word(), bin++) {
         if (!word.is_count)
-            return complain(WRONG_USE, "the text is no list of counts: '%s' where that of bin %zu was to stand", word.start, line->bins);
-        if (line->bins < ROOM)
+            return complain(WRONG_USE, "the text is no list of counts: '%s' where that of bin %zu was to stand", word.start, bin);
+        if (bin < ROOM)
             line->counts[line->bins++] = word.count;
     }
     return ferror(stdin) ? complain(WRONG_USE, "the counts cannot be read: %s", strerror(errno)) : 0;
@@ -195,33 +199,38 @@ static void print_counts(const struct line *line)
     printf("\n");
 }
 
-/* Bins in rows; those after the first row begin under the first bin, after so many spaces. */
-static void print_bins(const uint32_t *bins, size_t count, size_t in_row, int spaces)
+static void print_first_separators(const struct separators *first)
 {
-    for (size_t i = 0; i < count; i++) {
-        if (i > 0 && i % in_row == 0)
-            printf("\n%*s", spaces, "");
+    printf("\nfirst separators");
+    for (size_t i = 0; i < first->count; i++)
+        printf("%s%4u", i % SEPARATORS_IN_ROW == 0 ? "\n " : "", first->bins[i]);
+    printf("\n");
+}
+
+static void print_dropped(const uint32_t *bins, size_t count)
+{
+    size_t listed = count <= MOST_DROPPED ? count : FIRST_DROPPED;
+    for (size_t i = 0; i < listed; i++)
         printf("%4u", bins[i]);
-    }
+    if (listed < count)
+        printf("  ..%4u, %zu in all", bins[count - 1], count);
     printf("\n");
 }
 
 static void print_join(uint32_t number, const struct kistrovu_join_record *join, const struct separators *now)
 {
-    const uint32_t *first = &now->bins[join->first];
-    size_t length = (size_t)join->length;
-    int spaces = printf("%4u  %4u to %4u  %8zu  %s  %8.3f  ", number, first[0], first[length], length, join->rise ? "rise" : "fall",
-                        (double)join->cost / UNITS);
-    print_bins(first + 1, length - 1, DROPPED_IN_ROW, spaces);
+    size_t first = (size_t)join->first, length = (size_t)join->length;
+    const uint32_t *run = &now->bins[first];
+    printf("%4u  %5zu  %8zu  %4u  %4u  %s  %8.3f  ", number, first, length, run[0], run[length], join->rise ? "rise" : "fall",
+           (double)join->cost / UNITS);
+    print_dropped(run + 1, length - 1);
 }
 
 static void print_joins(const struct log *log, struct separators *now)
 {
-    printf("\nfirst separators\n ");
-    print_bins(now->bins, now->count, SEPARATORS_IN_ROW, 1);
     printf("\njoins, in turn%s\n", log->joins == 0 ? ": none" : "");
     if (log->joins > 0)
-        printf("join  bins          segments  by        bits  separators dropped\n");
+        printf("join  first  segments  from    to  by        bits  separators dropped\n");
     for (uint32_t i = 0; i < log->joins; i++) {
         print_join(i, &log->records[i], now);
         make_join(now, &log->records[i]);
@@ -264,6 +273,7 @@ int main(int argc, char **argv)
         return status;
 
     print_counts(&line);
+    print_first_separators(&separators);
     print_joins(&log, &separators);
     print_modes(&line, &separators);
     if (fflush(stdout) != 0 || ferror(stdout))

@@ -35,8 +35,8 @@ first separators
     0   2   4
 
 joins, in turn
-join  bins          segments  by        bits  separators dropped
-   0     0 to    4         2  fall    -2.492     2
+join  first  segments  from    to  by        bits  separators dropped
+   0      0         2     0     4  fall    -2.492     2
 
 modes
 mode  bins            counts
@@ -52,18 +52,18 @@ first separators
     0   1   3   5
 
 joins, in turn
-join  bins          segments  by        bits  separators dropped
-   0     0 to    5         3  fall    -0.217     1   3
+join  first  segments  from    to  by        bits  separators dropped
+   0      0         3     0     5  fall    -0.217     1   3
 
 modes
 mode  bins            counts
    0     0 to    5         6
 END_OF_LISTING
     try tools/joins -c -3 <<<'1 0 1 0 2 2'
-    check "a run of three, by the rise" gives - '   0     0 to    5         3  rise    -0.136     1   3'
+    check "a run of three, by the rise" gives - '   0      0         3     0     5  rise    -0.136     1   3'
 }
 
-# Segments are numbered as they stand just before a join, and what is listed are their bins.
+# Segments are numbered as they stand just before a join: that of the second join here was number 2 at first, and has become number 1.
 in_turn() {
     check "two joins, by the rise and by the fall" lists 0 "$humps" <<'END_OF_LISTING'
 line of 9 bins, sum 70, closeness 0
@@ -75,15 +75,30 @@ first separators
     0   2   4   6   8
 
 joins, in turn
-join  bins          segments  by        bits  separators dropped
-   0     0 to    4         2  rise    -3.239     2
-   1     4 to    8         2  fall    -3.239     6
+join  first  segments  from    to  by        bits  separators dropped
+   0      0         2     0     4  rise    -3.239     2
+   1      1         2     4     8  fall    -3.239     6
 
 modes
 mode  bins            counts
    0     0 to    3        35
    1     4 to    8        35
 END_OF_LISTING
+    check "first, segments, by and bits are those of the kit's first log" beside_the_log
+}
+
+# The first case of the kit's logs, of three joins, and its listing: first segment, segments, rise or fall, and bits.
+beside_the_log() {
+    local histogram closeness
+    sed -n '/^histogram/,/^$/p;/^log_after/q' tests/vectors/join_log.txt >"$work/case"
+    histogram=$(sed -n 's/^histogram //p' "$work/case")
+    closeness=$(sed -n 's/^closeness //p' "$work/case")
+    awk '$1 == "joins" { joins = $2 } $1 == "log_after" {
+        for (i = 1; i <= joins; i++) { split($(i + 1), of, ","); printf "%d %d %s %.3f\n", of[1], of[2], of[3] ? "rise" : "fall", of[4] / 67108864 }
+    }' "$work/case" >"$work/expected"
+    try tools/joins -c "$closeness" <<<"$histogram"
+    as_rows "$work/out" | awk '$1 == "join" { print $3, $4, $7, $8 }' >"$work/rows"
+    [[ $status -eq 0 && $(wc -l <"$work/rows") -eq 3 ]] && diff "$work/rows" "$work/expected"
 }
 
 nothing_to_join() {
@@ -114,22 +129,22 @@ line_of() {
     awk -v bins="$1" -v seed="$2" 'BEGIN { for (i = 0; i < bins; i++) { seed = (seed * 7141 + 54773) % 259200; print i % 2 ? int(seed / 3000) : int(seed / 20000) } }'
 }
 
-# The listing as words: those of the counts, of the first separators, of each join and of each mode in a row, `join NUMBER FROM TO SEGMENTS
-# BY BITS DROPPED..` and `mode NUMBER FROM TO COUNTS`. A row that is cut goes on in the next line.
+# The listing as words: those of the counts and of the first separators in one row, and each line of the joins and of the modes in a row,
+# `join NUMBER FIRST SEGMENTS FROM TO BY BITS DROPPED..` and `mode NUMBER FROM TO COUNTS`.
 as_rows() {
     awk '
         /^counts,|^first separators|^joins,|^modes/ { if (row != "") print row; row = /^c/ ? "counts" : /^f/ ? "first" : ""; part = $1; next }
         /^line|^join |^mode |^$/ { next }
         part == "counts," { $1 = ""; row = row $0; next }
         part == "first" { for (i = 1; i <= NF; i++) row = row " " $i; next }
-        part == "joins," && $3 != "to" { for (i = 1; i <= NF; i++) row = row " " $i; next }
-        { if (row != "") print row; $3 = ""; row = (part == "modes" ? "mode " : "join ") $0 }
-        END { print row }
+        part == "modes" { sub(" to ", " ") }
+        { print (part == "modes" ? "mode " : "join ") $0 }
     ' "$1"
 }
 
-# The listing, read back: its counts are those of the file; each join has its run of the separators that there are, as many as it says, and
-# drops those inside; what is left are the modes, each with its counts. And no line is wider than 80 columns.
+# The listing, read back: its counts are those of the file; each join is one line and has its run of the separators that there are, from
+# the number and as many as it says, and drops those inside, of which it lists all or the first two, the last and their number; what is
+# left are the modes, each with its counts. And no line is wider than 80 columns.
 holds_together() {
     as_rows "$work/out" >"$work/rows"
     awk -v line="$(tr -s ' \n' ' ' <"$1")" '
@@ -141,12 +156,16 @@ holds_together() {
         }
         $1 == "first" { m = NF - 1; for (i = 0; i < m; i++) at[i] = $(i + 2) }
         $1 == "join" {
-            if ($2 != joins++ || $5 < 2 || ($6 != "rise" && $6 != "fall") || $7 !~ /^-[0-9]+\.[0-9][0-9][0-9]$/ || NF - 7 != $5 - 1) bad = 1
-            for (i = 0; i < m && at[i] != $3; i++) continue
-            for (k = 1; k < $5; k++) if (at[i + k] != $(7 + k)) bad = 1
-            if (at[i + $5] != $4 || i + $5 >= m) bad = 1
-            for (k = i + $5; k < m; k++) at[k - $5 + 1] = at[k]
-            m -= $5 - 1
+            if ($2 != joins++ || $4 < 2 || ($7 != "rise" && $7 != "fall") || $8 !~ /^-[0-9]+\.[0-9][0-9][0-9]$/) bad = 1
+            if ($3 + $4 >= m || at[$3] != $5 || at[$3 + $4] != $6) bad = 1
+            dropped = ""
+            for (k = 1; k < $4; k++) if ($4 <= 8 || k <= 2) dropped = dropped " " at[$3 + k]
+            if ($4 > 8) dropped = dropped " .. " at[$3 + $4 - 1] ", " $4 - 1 " in all"
+            listed = ""
+            for (k = 9; k <= NF; k++) listed = listed " " $k
+            if (listed != dropped) bad = 1
+            for (k = $3 + $4; k < m; k++) at[k - $4 + 1] = at[k]
+            m -= $4 - 1
         }
         $1 == "mode" {
             end = modes + 2 == m ? at[modes + 1] : at[modes + 1] - 1
@@ -165,7 +184,13 @@ listed_well() {
     gives - "closeness $2" && holds_together "$1"
 }
 
-# A line of 256 bins with as many humps as there can be, and lines whose joins are of many segments. Their rows go on in further lines.
+# ripple BINS LOW HIGH: counts that take turns.
+ripple() {
+    awk -v bins="$1" -v low="$2" -v high="$3" 'BEGIN { for (i = 0; i < bins; i++) print i % 2 ? high : low }'
+}
+
+# A line of 256 bins with as many humps as there can be, and lines whose joins are of many segments: 8 and 9, where the list of those
+# dropped is cut, 26, and 128 as the one join of 256 bins.
 long_lines() {
     local seed closeness
     for seed in 1 2 3; do
@@ -174,9 +199,17 @@ long_lines() {
             check "256 bins, line $seed, closeness $closeness" listed_well "$work/line" "$closeness"
         done
     done
-    awk 'BEGIN { for (i = 0; i < 52; i++) print 10 + i % 2 }' >"$work/line"
-    check "a run of all segments" listed_well "$work/line" -10
-    check "its separators go on in further lines" grep -qE '^ {46}( +[0-9]+){7}$' "$work/out"
+    ripple 16 2 3 >"$work/line"
+    check "a run of 8 segments" listed_well "$work/line" -7
+    check "all it drops are listed" grep -qxE ' {3}0 {6}0 {9}8 .*     2   4   6   8  10  12  14' "$work/out"
+    ripple 18 1 2 >"$work/line"
+    check "a run of 9 segments" listed_well "$work/line" -7
+    check "of more than 7 the first two, the last and their number" grep -qxE ' {3}0 {6}0 {9}9 .*     2   4  [.][.]  16, 8 in all' "$work/out"
+    ripple 52 10 11 >"$work/line"
+    check "a run of 26 segments" listed_well "$work/line" -10
+    ripple 256 68 116 >"$work/line"
+    check "a run of 128 segments" listed_well "$work/line" -10
+    check "it is one line" grep -qxE ' {3}0 {6}0 {7}128 .*     2   4  [.][.] 254, 127 in all' "$work/out"
     line_of 255 9 | cat - <(echo 65536) >"$work/line"
     try tools/joins "$work/line"
     check "256 bins, turned down for their sum" ends 1 'number 7: The counts of the histogram add up to more than 65,536.'
@@ -199,8 +232,10 @@ texts() {
     check "no count: a byte of zero" ends 2 "'?5' where that of bin 1 was to stand"
     try tools/joins < <(printf '%0100000dx' 7)
     check "a long word, of which the beginning is shown" ends 2 "'00000000000000000000000' where that of bin 0"
-    try tools/joins < <(line_of 300 1 && echo x)
-    check "no count after the last that could be" ends 2 "'x'"
+    for text in 255 256 257 258 300; do
+        try tools/joins < <(line_of "$text" 1 && echo x)
+        check "no count after $text" ends 2 "'x' where that of bin $text was to stand"
+    done
     check "messages are one line" [ "$(wc -l <"$work/err")" -eq 1 ]
 }
 
@@ -243,18 +278,44 @@ wrong_use() {
     check "a folder" ends 2 'cannot be read'
     try tools/joins --help
     check "help" gives - 'tools/joins [-c CLOSENESS] [COUNTS]'
+    check "help begins with what is listed" [ "$(head -n 1 "$work/out" | cut -d , -f 1)" = 'Lists the joins of a line of bins' ]
+    check "help says what from and to are" gives - 'the first and the last separator of the run'
+    check "help has the rules of the log" gives - 'J1 and J2'
+    check "help has the status of a failed write" in_status_2 'a listing that cannot be written'
     if [[ -c /dev/full ]]; then
-        status=0
-        tools/joins <<<"$humps" >/dev/full 2>"$work/err" || status=$?
-        check "a listing that cannot be written" [ "$status" -eq 2 ]
-        check "its message" grep -q 'the listing cannot be written' "$work/err"
+        unwritten "a listing" 'the listing cannot be written'
+        unwritten "help" 'the help cannot be written' --help
     fi
 }
 
-# What it is compiled with: nothing, a library without the calls, and one that is not there.
+# in_status_2 WORDS: the help that was tried has them between status 2 and status 3.
+in_status_2() {
+    tr '\n' ' ' <"$work/out" | sed 's/.*Exit status: .*; 2 \(.*\); 3 .*/\1/' | grep -qF -- "$1"
+}
+
+# unwritten NAME WORDS WORD..: with these words it ends when nothing can be written, and says so.
+unwritten() {
+    local name=$1 words=$2
+    shift 2
+    status=0
+    timeout 60 tools/joins "$@" <<<"$humps" >/dev/full 2>"$work/err" || status=$?
+    check "$name that cannot be written" [ "$status" -eq 2 ]
+    check "$name that cannot be written: the message" grep -qF "$words" "$work/err"
+}
+
+# What it is compiled with: nothing, a compiler with flags, a library without the calls, and one that is not there.
 compiling() {
     CC=no-such-compiler try tools/joins <<<"$humps"
     check "no compiler" ends 2 'there is no C compiler no-such-compiler; CC names another'
+    CC='no-such-compiler -O0' try tools/joins <<<"$humps"
+    check "no compiler, with a flag" ends 2 'there is no C compiler no-such-compiler; CC names another'
+    CC='cc -O0' try tools/joins <<<"$humps"
+    check "a compiler with flags" gives - 'line of 9 bins'
+    CC='cc -O0 --no-such-flag' try tools/joins <<<"$humps"
+    check "a compiler with a flag that it does not have" ends 2 'it cannot be compiled with'
+    check "the flag reaches the compiler" grep -q 'no-such-flag' "$work/err"
+    TMPDIR=$work/none try tools/joins <<<"$humps"
+    check "no folder to compile it in" ends 2 'there is no folder to compile it in'
     mkdir "$work/empty" "$work/none.d"
     ar rc "$work/empty/libkistrovu.a"
     KISTROVU_LIB=$work/empty try tools/joins <<<"$humps"
@@ -289,14 +350,10 @@ installed() {
     check "the installed library" gives - 'line of 9 bins'
 }
 
-# A compiler that adds an engine whose answers are altered. engine NUMBER
+# A compiler with flags that add an engine whose answers are altered. engine NUMBER
 engine() {
-    cat >"$work/altered" <<END_OF_COMPILER
-#!/bin/sh
-exec cc -DWRONG=$1 -Wl,--wrap=kistrovu_join_log,--wrap=kistrovu_replay,--wrap=kistrovu_version "$top/tests/tools/wrong_joins.c" "\$@"
-END_OF_COMPILER
-    chmod +x "$work/altered"
-    CC=$work/altered try tools/joins <<<"$humps"
+    local wrap='-Wl,--wrap=kistrovu_join_log,--wrap=kistrovu_replay,--wrap=kistrovu_version'
+    CC="cc -DWRONG=$1 $wrap tests/tools/wrong_joins.c" try tools/joins <<<"$humps"
 }
 
 # A library whose log and replay do not agree: nothing is listed.
