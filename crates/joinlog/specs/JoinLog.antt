@@ -35,10 +35,11 @@ madeOnLine e h = joinsMade (length (firstSegments h)) (lineJoins e (lineReader h
 abbrev pub recordOf : Join → JoinRecord
 recordOf j = record { first = pos (j .first); length = pos (j .len); rise = pos (cond (j .rise) 1 0); cost = j .cost }
 
--- J1: as a log has it; so a place of a log is this many numbers
+-- J1: the record as a log has it
 abbrev pub numbersOf : JoinRecord → List ℤ
 numbersOf r = r .first ∷ r .length ∷ r .rise ∷ r .cost ∷ []
 
+-- J1, G10: how many numbers that is, and so a place of a log
 abbrev pub recordNumbers : ℕ
 recordNumbers = 4
 
@@ -51,6 +52,7 @@ logOf (j ∷ js) = numbersOf (recordOf j) ++ logOf js
 unfoldable pub lineLog : Closeness → List ℕ → List ℤ
 lineLog e h = logOf (madeOnLine e h)
 
+-- J3: whether two numbers are the same, sign included
 unfoldable pub sameNumber : ℤ → ℤ → Bool
 sameNumber (pos m) (pos n) = eqb m n
 sameNumber (pos m) (negsuc n) = false
@@ -74,7 +76,7 @@ unfoldable pub joinsApplied : Joins → List Join → List Segment → List Segm
 joinsApplied w [] ss = ss
 joinsApplied w (j ∷ js) ss = joinsApplied w js (w .after ss j)
 
--- J3: the same as far as they go, whatever comes after them
+-- J3: each join is the one that comes next; after the last there may be more
 abbrev pub FollowsSoFar : Joins → List Join → List Segment → Type 0
 FollowsSoFar w [] ss = Unit {0}
 FollowsSoFar w (j ∷ js) ss = (w .next ss ≡ some j) × FollowsSoFar w js (w .after ss j)
@@ -96,13 +98,13 @@ pub record Replayed (e : Closeness) (h : List ℕ) (log : List ℤ) : Type 0 whe
   pub follows : Follows (lineJoins e (lineReader h)) joins (firstSegments h)
   pub ends : joinsApplied (lineJoins e (lineReader h)) joins (firstSegments h) ≡ lineModes e h
 
--- J3: what is left of a log is wrong where no join comes next and numbers are left, so that it goes on too long; and where one does and they do not begin with its record:
--- if there are too few of them the log stops early
+-- J3: how the rest of a log leaves the method. Where no join comes next, there are numbers: the log is too long. Where one does, the next four numbers are not its record: they
+-- are others, or, if fewer are left, the log stops early
 abbrev pub Leaves : Option Join → (rest : List ℤ) → Type 0
 Leaves none rest = ¬ (rest ≡ [])
 Leaves (some j) rest = ¬ (take recordNumbers rest ≡ numbersOf (recordOf j))
 
--- G20, J3: a log that leaves the method, after so many records that are right
+-- G20, J3: a log that leaves the method, after the records of some joins that are right, or of none
 pub record Departs (e : Closeness) (h : List ℕ) (log : List ℤ) : Type 0 where
   pub made : List Join
   pub rest : List ℤ
@@ -110,7 +112,7 @@ pub record Departs (e : Closeness) (h : List ℕ) (log : List ℤ) : Type 0 wher
   pub follows : FollowsSoFar (lineJoins e (lineReader h)) made (firstSegments h)
   pub leaves : Leaves (nextJoin e (lineReader h) (joinsApplied (lineJoins e (lineReader h)) made (firstSegments h))) rest
 
--- proved in proofs/Always
+-- J2, J4: of every line. Proved in proofs/Always
 abbrev pub LogAlwaysSound : Type 0
 LogAlwaysSound = (e : Closeness) (h : List ℕ) → LogSound e h
 
@@ -121,6 +123,6 @@ pub record LogDecided (e : Closeness) (h : List ℕ) (log : List ℤ) : Type 0 w
   pub departs : ¬ (log ≡ lineLog e h) → Departs e h log
   pub never : Departs e h log → ¬ (log ≡ lineLog e h)
 
--- proved in proofs/Always
+-- J4: of every line and every log. Proved in proofs/Always
 abbrev pub LogAlwaysDecided : Type 0
 LogAlwaysDecided = (e : Closeness) (h : List ℕ) (log : List ℤ) → LogDecided e h log
