@@ -55,8 +55,8 @@ extern "C" {
 /* ---- the version of this header and, from the call, that of the library. If the two differ, the program was linked with
  * another release. Major: a declaration, a number or a figure's meaning changed. Minor: something was added. */
 
-#define KISTROVU_VERSION_MAJOR 5
-#define KISTROVU_VERSION_MINOR 2
+#define KISTROVU_VERSION_MAJOR 6
+#define KISTROVU_VERSION_MINOR 0
 #define KISTROVU_VERSION_PATCH 0
 #define KISTROVU_VERSION (10000 * KISTROVU_VERSION_MAJOR + 100 * KISTROVU_VERSION_MINOR + KISTROVU_VERSION_PATCH)
 
@@ -73,9 +73,9 @@ enum kistrovu_ground {
     KISTROVU_BINS = 6,         /* the histogram has fewer than 2 bins or more than 256 */
     KISTROVU_SUM = 7,          /* the counts of the histogram add up to more than 65,536 */
     KISTROVU_CLOSENESS = 8,    /* the closeness is below -10 or above 20 */
-    KISTROVU_LABELS = 9,       /* the label buffer does not have one place for each pixel */
+    KISTROVU_LABELS = 9,       /* the label buffer does not have one place for each pixel, or for each one-byte label that is read into it */
     KISTROVU_SEPARATORS = 10,  /* the separator list, or the list to write a log in, has fewer places than the histogram has bins */
-    KISTROVU_ENTRIES = 11,     /* the card would have more than 255 entries */
+    KISTROVU_ENTRIES = 11,     /* the card would have more than 1,000 entries */
     KISTROVU_LOG = 20          /* the log is not the one that the method writes for the line */
 };
 
@@ -84,10 +84,10 @@ enum kistrovu_ground {
 #define KISTROVU_LEAST_CLOSENESS (-10)
 #define KISTROVU_MOST_CLOSENESS 20
 #define KISTROVU_MOST_PIXELS 65536
-#define KISTROVU_MOST_ENTRIES 255
+#define KISTROVU_MOST_ENTRIES 1000
 #define KISTROVU_MOST_SWATCH_PIXELS 16384
 #define KISTROVU_MOST_TEXT (13 * (1 + KISTROVU_MOST_SWATCH_PIXELS))
-#define KISTROVU_MOST_PRINTED 12514
+#define KISTROVU_MOST_PRINTED 49019
 
 /* ---- the measures of one pixel. No ground concerns it; the number is always 0 */
 
@@ -237,20 +237,25 @@ struct kistrovu_entry {
     uint32_t count; /* how many pixels have its label; never 0 in the first len places */
 };
 
-struct kistrovu_card { /* 3,068 bytes */
+struct kistrovu_card { /* 12,008 bytes */
     uint32_t number;
     uint32_t len;
     struct kistrovu_entry entries[KISTROVU_MOST_ENTRIES];
 };
 
-struct kistrovu_card kistrovu_card(const uint8_t *pixels, size_t bytes, int32_t closeness, uint8_t *labels, size_t places);
+struct kistrovu_card kistrovu_card(const uint8_t *pixels, size_t bytes, int32_t closeness, uint16_t *labels, size_t places);
+
+/* ---- labels of one byte, as earlier releases wrote them, widened: each number unchanged. Ground 9
+ * The answer is the number of the call. Every byte is a label, and two empty lists are served. */
+
+uint32_t kistrovu_widen_labels(const uint8_t *narrow, size_t count, uint16_t *labels, size_t places);
 
 /* ---- the card of a swatch, both as text, at closeness 0. Grounds 1, 2, 3, 11
  * docs/FORMAT.md describes both texts. The first len places of bytes hold the text of the card; the rest are zero, but a
  * full card leaves no such place, so use len. A text may be cut off after KISTROVU_MOST_TEXT + 1 bytes: the answer is the
  * same. */
 
-struct kistrovu_printed { /* 12,524 bytes */
+struct kistrovu_printed { /* 49,028 bytes */
     uint32_t number;
     uint32_t len;
     uint8_t bytes[KISTROVU_MOST_PRINTED];

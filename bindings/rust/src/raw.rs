@@ -22,7 +22,7 @@ pub const LEAST_CLOSENESS: i32 = -10;
 /// The largest closeness.
 pub const MOST_CLOSENESS: i32 = 20;
 /// The most entries of a card.
-pub const MOST_ENTRIES: usize = 255;
+pub const MOST_ENTRIES: usize = 1_000;
 /// The most bytes that are printed: a line of 3 fields of 6 columns, and a line of 8 for each entry.
 pub const MOST_PRINTED: usize = 19 + 49 * MOST_ENTRIES;
 
@@ -238,9 +238,17 @@ extern "C" {
         pixels: *const u8,
         bytes: usize,
         closeness: i32,
-        labels: *mut u8,
+        labels: *mut u16,
         places: usize,
     ) -> Card;
+
+    /// Labels of one byte, widened: each number unchanged. The answer is the number of the call. Ground 9.
+    pub fn kistrovu_widen_labels(
+        narrow: *const u8,
+        count: usize,
+        labels: *mut u16,
+        places: usize,
+    ) -> u32;
 
     /// The card of a swatch, both as text. Grounds 1, 2, 3, 11.
     pub fn kistrovu_print_card(text: *const u8, bytes: usize) -> Printed;
