@@ -1,22 +1,22 @@
 -- What a call's number says: if a call is served, no ground holds; a later ground is tested only if none of the earlier ones holds. Assumes nothing.
 use Prim.Native.Nat.{ℕ, _/_, _≤_, _<_}
 use mathlib.Core.Path.{_≡_, refl, sym, ap, _∙_}
-use mathlib.Core.Bool.{Bool, true, false, cond, not}
+use mathlib.Core.Bool.{Bool, true, false, cond, not, false≢true}
 use mathlib.Core.List.{List, [], _∷_, _++_}
-use lib.Dec.{ltb}
+use lib.Dec.{ltb, eqb}
 use lib.IntN.{ℤ}
 use lib.ListN.{length}
 use lib.Signed.{ltZ}
 use native.Mathlib.Omega.{arith}
 use native.Mathlib.Decide.{ℕ-discrete}
-use borrow.Author.Tests.{ltb-false}
-use Rattle.lists.proofs.Connectives.{both-false}
+use borrow.Author.Tests.{ltb-false, eqb-true}
+use Rattle.lists.proofs.Connectives.{both-false, was-true}
 use Rattle.lists.proofs.Signed.{nlt-le-ℤ}
 use Rattle.lists.specs.Lists.{total}
 use Rattle.verdict.specs.Test.{Closeness, leastCloseness, mostCloseness}
 use Rattle.verdict.specs.Settings.{Offered}
 use Rattle.joinlog.specs.JoinLog.{recordNumbers, lineLog, sameNumbers}
-use Rattle.grounds.specs.Grounds.{Ground, firstGround, badLength, largeSum, badCloseness, fewPlaces, otherLog, fitNumber, verdictNumber, modesNumber, logNumber, replayNumber}
+use Rattle.grounds.specs.Grounds.{Ground, firstGround, badLength, largeSum, badCloseness, fewPlaces, badLabels, otherLog, fitNumber, verdictNumber, modesNumber, logNumber, replayNumber, widenNumber}
 
 -- ---- grounds in sequence
 pub ground-holds : (g : Ground) (gs : List Ground) → g .holds ≡ true → firstGround (g ∷ gs) ≡ g .number
@@ -28,7 +28,7 @@ unfolding firstGround
 ground-passes g gs e = rw e refl
 
 -- no ground has the number of a served call
-abbrev Numbered : List Ground → Type 0
+abbrev pub Numbered : List Ground → Type 0
 Numbered [] = Unit {0}
 Numbered (g ∷ gs) = (0 < g .number) × Numbered gs
 
@@ -54,6 +54,29 @@ grounds-turned-down (g ∷ gs) hs n = go (g .holds) refl (grounds-turned-down gs
     go : (t : Bool) → g .holds ≡ t → (¬ (firstGround gs ≡ 0) → firstGround (gs ++ hs) ≡ firstGround gs) → firstGround (g ∷ (gs ++ hs)) ≡ firstGround (g ∷ gs)
     go true q ih = ground-holds g (gs ++ hs) q ∙ sym (ground-holds g gs q)
     go false q ih = ground-passes g (gs ++ hs) q ∙ ih (λ e. n (ground-passes g gs q ∙ e)) ∙ sym (ground-passes g gs q)
+
+-- where the number is 0, the last ground does not hold
+pub last-none : (gs : List Ground) (g : Ground) → Numbered (gs ++ (g ∷ [])) → firstGround (gs ++ (g ∷ [])) ≡ 0 → g .holds ≡ false
+last-none [] g n e = ground-none g [] (n .0) e .0
+last-none (f ∷ gs) g n e = last-none gs g (n .1) (ground-none f (gs ++ (g ∷ [])) (n .0) e .1)
+
+-- another last ground, which holds only where the last one does, gives the same number wherever that is not the number of the last one
+pub last-kept : (gs : List Ground) (g h : Ground) → (h .holds ≡ true → g .holds ≡ true) → ¬ (firstGround (gs ++ (g ∷ [])) ≡ g .number)
+    → firstGround (gs ++ (h ∷ [])) ≡ firstGround (gs ++ (g ∷ []))
+last-kept [] g h only n = go (g .holds) (h .holds) refl refl
+  where
+    go : (s t : Bool) → g .holds ≡ s → h .holds ≡ t → firstGround (h ∷ []) ≡ firstGround (g ∷ [])
+    go true t p q = absurd (n (ground-holds g [] p))
+    go false true p q = absurd (false≢true (sym p ∙ only q))
+    go false false p q = ground-passes h [] q ∙ sym (ground-passes g [] p)
+last-kept (f ∷ gs) g h only n = go (f .holds) refl (last-kept gs g h only)
+  where
+    go : (t : Bool) → f .holds ≡ t → (¬ (firstGround (gs ++ (g ∷ [])) ≡ g .number) → firstGround (gs ++ (h ∷ [])) ≡ firstGround (gs ++ (g ∷ [])))
+        → firstGround (f ∷ (gs ++ (h ∷ []))) ≡ firstGround (f ∷ (gs ++ (g ∷ [])))
+    go true q ih = ground-holds f (gs ++ (h ∷ [])) q ∙ sym (ground-holds f (gs ++ (g ∷ [])) q)
+    go false q ih =
+        let passed = ground-passes f (gs ++ (g ∷ [])) q in
+        ground-passes f (gs ++ (h ∷ [])) q ∙ ih (λ e. n (passed ∙ e)) ∙ sym passed
 
 -- ---- histograms
 -- 2 to 256 bins with a sum of at most 65,536
@@ -155,3 +178,9 @@ module _ (e : Closeness) (h : List ℕ) (log : List ℤ) (places : ℕ) where
       go (no n) t q = absurd (n (sym (replay-turned-down n) ∙ z))
       go (yes y) true q = (y, refl)
       go (yes y) false q = absurd (omega (arith, replay-other y q, z))
+
+-- ---- labels that are widened
+-- the two lists are as long
+pub widen-served : (narrow : List ℕ) (places : ℕ) → widenNumber narrow places ≡ 0 → places ≡ length narrow
+unfolding widenNumber
+widen-served narrow places z = eqb-true places (length narrow) (was-true (eqb places (length narrow)) (ground-none (badLabels (length narrow) places) [] (omega arith) z .0))

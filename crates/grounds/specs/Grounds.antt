@@ -55,9 +55,9 @@ largeSum h = record { number = 7; holds = ltb 65536 (total h) }
 abbrev pub badCloseness : Closeness → Ground
 badCloseness e = record { number = 8; holds = ltZ e leastCloseness || ltZ mostCloseness e }
 
--- G9: the labels do not match the pixels
-abbrev pub badLabels : List ℕ → ℕ → Ground
-badLabels bytes places = record { number = 9; holds = not (eqb places (length bytes / 3)) }
+-- G9: not a place for each label
+abbrev pub badLabels : ℕ → ℕ → Ground
+badLabels labels places = record { number = 9; holds = not (eqb places labels) }
 
 -- G10: fewer places than bins, for separators or for records
 abbrev pub fewPlaces : List ℕ → ℕ → Ground
@@ -92,10 +92,14 @@ replayNumber e h log places = firstGround (badLength h ∷ largeSum h ∷ badClo
 
 -- the number of a card call: as far as it is known before the entries are found, and with them
 unfoldable pub askedNumber : Closeness → List ℕ → ℕ → ℕ
-askedNumber e bytes places = firstGround (badBytes bytes ∷ manyPixels bytes ∷ badCloseness e ∷ badLabels bytes places ∷ [])
+askedNumber e bytes places = firstGround (badBytes bytes ∷ manyPixels bytes ∷ badCloseness e ∷ badLabels (length bytes / 3) places ∷ [])
 
 unfoldable pub cardNumber : Closeness → List ℕ → ℕ → ℕ
-cardNumber e bytes places = firstGround (badBytes bytes ∷ manyPixels bytes ∷ badCloseness e ∷ badLabels bytes places ∷ manyEntries e bytes ∷ [])
+cardNumber e bytes places = firstGround (badBytes bytes ∷ manyPixels bytes ∷ badCloseness e ∷ badLabels (length bytes / 3) places ∷ manyEntries e bytes ∷ [])
+
+-- the number of a widening: a label for each byte
+unfoldable pub widenNumber : List ℕ → ℕ → ℕ
+widenNumber narrow places = firstGround (badLabels (length narrow) places ∷ [])
 
 -- X6: the closeness that the text call works at and prints; a field has no sign
 unfoldable pub programCloseness : ℕ

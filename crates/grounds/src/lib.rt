@@ -7,7 +7,7 @@ ghost use mathlib.Core.Path.{_≡_};
 ghost use Prim.Native.Nat.{_≤_};
 ghost use lib.ListN.{length};
 ghost use Rattle.lists.specs.Lists.{total};
-ghost use Rattle.grounds.specs.Grounds.{badCloseness, fitNumber, verdictNumber, modesNumber, logNumber, askedNumber};
+ghost use Rattle.grounds.specs.Grounds.{badCloseness, fitNumber, verdictNumber, modesNumber, logNumber, askedNumber, widenNumber};
 
 // The sum of the counts. There are at most 256 of them, so it cannot overflow.
 fn sum(h: &[u32]) -> u64
@@ -96,6 +96,16 @@ pub fn card_asked(pixels: &[u8], closeness: i32, places: usize) -> u32
         return 8;
     }
     if places != bytes / 3 {
+        return 9;
+    }
+    0
+}
+
+// The number of a widening of one-byte labels into a list of so many places.
+pub fn widen_number(narrow: &[u8], places: usize) -> u32
+    ensures { λ r. ⌜ r ≡ widenNumber (now (narrow .entry)) places ⌝ }
+{
+    if places != narrow.len() {
         return 9;
     }
     0

@@ -1,4 +1,4 @@
--- What the card call answers and leaves, by its number; making a card twice gives the same card. Assumes nothing.
+-- What the card call answers and leaves, by its number, and what a widening leaves; making a card twice gives the same card. Assumes nothing.
 use Prim.Native.Nat.{ℕ, _*_, _/_, _%_, _≤_, _<_}
 use mathlib.Core.Path.{_≡_, refl, sym, ap, _∙_}
 use mathlib.Core.List.{List, [], _∷_}
@@ -20,8 +20,8 @@ use Rattle.palette.proofs.Always.{always-sound}
 use Rattle.palette.proofs.Triples.{pixels-length, pixels-bytes}
 use Rattle.making.specs.Making.{cardEntries, labelsLeft}
 use Rattle.kistrovu.specs.declared.Card.{Card}
-use Rattle.grounds.specs.Grounds.{firstGround, badBytes, manyPixels, badCloseness, badLabels, manyEntries, askedNumber, cardNumber}
-use Rattle.kistrovu.specs.Answers.{servedEntries, cardAnswer, labelList}
+use Rattle.grounds.specs.Grounds.{firstGround, badBytes, manyPixels, badCloseness, badLabels, manyEntries, askedNumber, cardNumber, widenNumber}
+use Rattle.kistrovu.specs.Answers.{servedEntries, cardAnswer, labelList, widenedList}
 use Rattle.kistrovu.specs.Facts.{SoundAnswer, CardAgain}
 use Rattle.grounds.proofs.Served.{closeness-offered, ground-none, grounds-served, grounds-turned-down}
 
@@ -37,21 +37,21 @@ pub record Asked (e : Closeness) (bytes : List ℕ) (places : ℕ) : Type 0 wher
 module _ (e : Closeness) (bytes : List ℕ) (places : ℕ) where
   pub card-turned-down : ¬ (askedNumber e bytes places ≡ 0) → cardNumber e bytes places ≡ askedNumber e bytes places
   unfolding askedNumber cardNumber
-  card-turned-down n = grounds-turned-down (badBytes bytes ∷ manyPixels bytes ∷ badCloseness e ∷ badLabels bytes places ∷ []) (manyEntries e bytes ∷ []) n
+  card-turned-down n = grounds-turned-down (badBytes bytes ∷ manyPixels bytes ∷ badCloseness e ∷ badLabels (length bytes / 3) places ∷ []) (manyEntries e bytes ∷ []) n
 
   pub card-asked : askedNumber e bytes places ≡ 0 → cardNumber e bytes places ≡ firstGround (manyEntries e bytes ∷ [])
   unfolding askedNumber cardNumber
   card-asked z =
-      grounds-served (badBytes bytes ∷ manyPixels bytes ∷ badCloseness e ∷ badLabels bytes places ∷ []) (manyEntries e bytes ∷ [])
+      grounds-served (badBytes bytes ∷ manyPixels bytes ∷ badCloseness e ∷ badLabels (length bytes / 3) places ∷ []) (manyEntries e bytes ∷ [])
       (omega arith, (omega arith, (omega arith, (omega arith, tt)))) z
 
   pub asked-none : askedNumber e bytes places ≡ 0 → Asked e bytes places
   unfolding askedNumber
   asked-none z =
-      let a = ground-none (badBytes bytes) (manyPixels bytes ∷ badCloseness e ∷ badLabels bytes places ∷ []) (omega arith) z in
-      let b = ground-none (manyPixels bytes) (badCloseness e ∷ badLabels bytes places ∷ []) (omega arith) (a .1) in
-      let c = ground-none (badCloseness e) (badLabels bytes places ∷ []) (omega arith) (b .1) in
-      let d = ground-none (badLabels bytes places) [] (omega arith) (c .1) in
+      let a = ground-none (badBytes bytes) (manyPixels bytes ∷ badCloseness e ∷ badLabels (length bytes / 3) places ∷ []) (omega arith) z in
+      let b = ground-none (manyPixels bytes) (badCloseness e ∷ badLabels (length bytes / 3) places ∷ []) (omega arith) (a .1) in
+      let c = ground-none (badCloseness e) (badLabels (length bytes / 3) places ∷ []) (omega arith) (b .1) in
+      let d = ground-none (badLabels (length bytes / 3) places) [] (omega arith) (c .1) in
       let rest = ltb-false 0 (length bytes % 3) (both-false (eqb (length bytes) 0) (ltb 0 (length bytes % 3)) (a .0) .1) in
       let same : places ≡ length bytes / 3 = eqb-true places (length bytes / 3) (was-true (eqb places (length bytes / 3)) (d .0)) in
       record {
@@ -77,6 +77,16 @@ module _ (e : Closeness) (bytes lent : List ℕ) (n : ℕ) (is : n ≡ cardNumbe
   pub labels-served : n ≡ 0 → labels e (pixelsOf bytes) ≡ labelList e bytes lent
   unfolding labelList
   labels-served z = rw (sym is, z) refl
+
+-- ---- the labels as a widening leaves them, by its number
+module _ (narrow lent : List ℕ) (n : ℕ) (is : n ≡ widenNumber narrow (length lent)) where
+  pub widened-served : n ≡ 0 → narrow ≡ widenedList narrow lent
+  unfolding widenedList
+  widened-served z = rw (sym is, z) refl
+
+  pub widened-as-lent : ¬ (n ≡ 0) → lent ≡ widenedList narrow lent
+  unfolding widenedList
+  widened-as-lent some = rw (sym is, ne-eqb n 0 some) refl
 
 -- ---- more entries than a card may hold, or not
 module _ (e : Closeness) (bytes : List ℕ) (places total : ℕ) (none : askedNumber e bytes places ≡ 0) (is : total ≡ length (entries e (pixelsOf bytes))) where

@@ -1,5 +1,6 @@
 mod FitAnswers
 mod Modes
+mod Narrow
 pub mod Turns
 pub mod Cards
 pub mod Texts

@@ -18,7 +18,7 @@ use Rattle.palette.specs.declared.Entry.{Entry}
 use Rattle.palette.specs.Cards.{pixelsOf, entries, labels, mostEntries, noEntry}
 use Rattle.swatch.specs.Input.{bytesOf}
 use Rattle.swatch.specs.Output.{printedLine, printedCard, printedMost}
-use Rattle.grounds.specs.Grounds.{fitNumber, verdictNumber, modesNumber, logNumber, replayNumber, cardNumber, programCloseness, textNumber}
+use Rattle.grounds.specs.Grounds.{fitNumber, verdictNumber, modesNumber, logNumber, replayNumber, cardNumber, widenNumber, programCloseness, textNumber}
 use Rattle.kistrovu.specs.declared.MeasuresAnswer.{MeasuresAnswer}
 use Rattle.kistrovu.specs.declared.FitAnswer.{FitAnswer}
 use Rattle.kistrovu.specs.declared.VerdictAnswer.{VerdictAnswer}
@@ -108,6 +108,10 @@ cardAnswer e bytes places = record {
 -- A4: the label buffer as a card call leaves it
 unfoldable pub labelList : Closeness → List ℕ → List ℕ → List ℕ
 labelList e bytes list = served (cardNumber e bytes (length list)) (labels e (pixelsOf bytes)) list
+
+-- C9, A4: the label buffer as a widening leaves it: each one-byte label in its place. The number is all that is handed back
+unfoldable pub widenedList : (narrow : List ℕ) → List ℕ → List ℕ
+widenedList narrow list = served (widenNumber narrow (length list)) narrow list
 
 -- X5 and X6: the bytes of a text's card; none if the text is turned down
 unfoldable pub printed : List ℕ → List ℕ

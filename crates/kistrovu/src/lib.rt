@@ -18,7 +18,7 @@ ghost use Rattle.listing.specs.Listing.{RingOrdered};
 ghost use Rattle.palette.specs.Cards.{pixelsOf};
 ghost use Rattle.palette.specs.Sound.{SoundCard};
 ghost use Rattle.swatch.specs.Input.{bytesOf};
-ghost use Rattle.grounds.specs.Grounds.{programCloseness};
+ghost use Rattle.grounds.specs.Grounds.{widenNumber, programCloseness};
 ghost use Rattle.kistrovu.specs.Answers.{
   libraryVersion,
   measuresAnswer,
@@ -34,6 +34,7 @@ ghost use Rattle.kistrovu.specs.Answers.{
   replayList,
   cardAnswer,
   labelList,
+  widenedList,
   printedAnswer,
   groundAnswer,
 };
@@ -262,7 +263,7 @@ pub extern "C" fn kistrovu_replay(
 
 // The card of an image of three bytes a pixel, and the label of each pixel: its entry's number. Grounds 4, 5, 8, 9, 11.
 #[no_mangle]
-pub extern "C" fn kistrovu_card(pixels: &[u8], closeness: i32, labels: &mut [u8]) -> Card
+pub extern "C" fn kistrovu_card(pixels: &[u8], closeness: i32, labels: &mut [u16]) -> Card
     ensures { λ r. ⌜ (r ≡ cardAnswer closeness (now (pixels .entry)) (length (now (labels .entry))))
         × (now (labels .exit) ≡ labelList closeness (now (pixels .entry)) (now (labels .entry)))
         × IfServed (r .number) (SoundAnswer closeness (now (pixels .entry)) r (now (labels .exit))) ⌝ }
@@ -289,6 +290,19 @@ pub extern "C" fn kistrovu_card(pixels: &[u8], closeness: i32, labels: &mut [u8]
         len: made.total,
         entries,
     }
+}
+
+// Labels of one byte, widened: each number unchanged. The answer is the number of the call. Ground 9.
+#[no_mangle]
+pub extern "C" fn kistrovu_widen_labels(narrow: &[u8], labels: &mut [u16]) -> u32
+    ensures { λ r. ⌜ (r ≡ widenNumber (now (narrow .entry)) (length (now (labels .entry))))
+        × (now (labels .exit) ≡ widenedList (now (narrow .entry)) (now (labels .entry))) ⌝ }
+{
+    let number = grounds::widen_number(narrow, labels.len());
+    if number == 0 {
+        widening::widen_labels(narrow, labels);
+    }
+    number
 }
 
 // The text of the card of a swatch that is given as text. Grounds 1, 2, 3, 11.

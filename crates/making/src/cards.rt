@@ -54,7 +54,7 @@ pub fn make_entries(
 }
 
 // The entries and the labels, in scratch that is made here: five bytes for each pixel, a place in two lists for each entry. With too many entries the labels stay as lent.
-pub fn make_card(pixels: &[u8], setting: u32, labels: &mut [u8]) -> CardEntries
+pub fn make_card(pixels: &[u8], setting: u32, labels: &mut [u16]) -> CardEntries
     requires { ⌜ (length (now pixels) ≡ 3 * length (now labels)) × (length (now labels) ≤ mostPixels) × (setting ≤ lastSetting) ⌝ }
     ensures { λ r. ⌜ (r ≡ cardEntries (closenessOf setting) (pixelsOf (now (pixels .entry))))
         × (now (labels .exit) ≡ labelsLeft (closenessOf setting) (pixelsOf (now (pixels .entry))) (now (labels .entry))) ⌝ }

@@ -88,7 +88,7 @@ pub fn entries_of(
 }
 
 // Gives the pixels of one entry its label.
-fn label_range(numbers: &[u16], label: u8, labels: &mut [u8])
+fn label_range(numbers: &[u16], label: u16, labels: &mut [u16])
     requires { ⌜ AllBelow (now numbers) (length (now labels)) ⌝ }
     ensures { λ _. ⌜ now (labels .exit) ≡ labelled label (now (numbers .entry)) (now (labels .entry)) ⌝ }
 {
@@ -100,7 +100,7 @@ fn label_range(numbers: &[u16], label: u8, labels: &mut [u8])
 }
 
 // Each entry labels the next of the numbers, as many as its size says.
-pub fn write_labels(numbers: &[u16], sizes: &[u32], labels: &mut [u8])
+pub fn write_labels(numbers: &[u16], sizes: &[u32], labels: &mut [u16])
     requires { ⌜ RangesLaid (now numbers) (now sizes) (length (now labels)) ⌝ }
     ensures { λ _. ⌜ now (labels .exit) ≡ labelsBy (now (sizes .entry)) (now (numbers .entry)) (length (now (sizes .entry))) (now (labels .entry)) ⌝ }
 {
@@ -108,7 +108,7 @@ pub fn write_labels(numbers: &[u16], sizes: &[u32], labels: &mut [u8])
     let mut k = 0;
     while k < sizes.len() {
         let end = at + sizes[k] as usize;
-        label_range(&numbers[at..end], k as u8, labels);
+        label_range(&numbers[at..end], k as u16, labels);
         at = end;
         k += 1;
     }

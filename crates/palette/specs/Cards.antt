@@ -97,7 +97,7 @@ module _ (e : Closeness) (ps : List Pixel) where
 
 -- G11: the most entries that a card may hold
 unfoldable pub mostEntries : ℕ
-mostEntries = 255
+mostEntries = 1000
 
 abbrev pub noEntry : Entry
 noEntry = record { kind = 0; hue = 0; saturation = 0; intensity = 0; red = 0; green = 0; blue = 0; count = 0 }

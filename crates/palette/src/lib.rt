@@ -5,7 +5,7 @@ ghost use Rattle.lists.specs.Lists.{padded};
 ghost use Rattle.palette.specs.Cards.{mostEntries, noEntry};
 
 // The most entries that a card may hold.
-pub const MOST_ENTRIES: usize = 255;
+pub const MOST_ENTRIES: usize = 1000;
 
 // The most pixels that a call takes.
 pub const MOST_PIXELS: usize = 65536;

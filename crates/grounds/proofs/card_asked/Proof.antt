@@ -43,7 +43,7 @@ eight c =
 
 -- the grounds that are then left
 abbrev nine : (c : tie.After-bad-closeness) → List Ground
-nine c = let s = c .before .before .before .before .before in badLabels (s .args .pixels .now) (s .args .places) ∷ []
+nine c = let s = c .before .before .before .before .before in badLabels (length (s .args .pixels .now) / 3) (s .args .places) ∷ []
 
 asked-left : (c : tie.After-bad-closeness) → let s = c .before .before .before .before .before in
     askedNumber (s .args .closeness) (s .args .pixels .now) (s .args .places) ≡ firstGround (badCloseness (s .args .closeness) ∷ nine c)

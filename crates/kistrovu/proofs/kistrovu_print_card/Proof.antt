@@ -16,14 +16,14 @@ slice-aggregate-print c = search needs
 
 print-requires : tie.Need-print-requires
 unfolding printedMost mostEntries
-print-requires c κs = omega (arith, length-replicate {A = ℕ} 12514 0)
+print-requires c κs = omega (arith, length-replicate {A = ℕ} printedMost 0)
 
 returns : tie.Need-returns
 unfolding printedAnswer printedMost mostEntries
 returns c =
     let p = c .before .print .ensures in
     let text = c .before .before .before .before .args .text .now in
-    let bytes = p .0 .written ∙ over-padded 12514 0 (printed text) in
+    let bytes = p .0 .written ∙ over-padded printedMost 0 (printed text) in
     (rw (p .0 .numbered, p .0 .long, bytes) refl, λ z. p .1 (sym (p .0 .numbered) ∙ z))
 
 pub kistrovu-print-card-spec : {M : Type 1} → statement M

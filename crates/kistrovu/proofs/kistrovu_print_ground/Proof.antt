@@ -31,7 +31,7 @@ unfolding groundAnswer printedMost mostEntries
 returns c =
     let p = c .before .print-number .ensures in
     let line = printedLine (c .before .before .before .args .number ∷ []) in
-    rw (p .1, p .0 ∙ over-padded 12514 0 line) refl
+    rw (p .1, p .0 ∙ over-padded printedMost 0 line) refl
 
 pub kistrovu-print-ground-spec : {M : Type 1} → statement M
 kistrovu-print-ground-spec = tie.close (tie.spec slice-aggregate-print-number print-number-requires cast-t6 returns)

@@ -13,7 +13,7 @@ no-entry-requires c κs = search needs
 
 returns : tie.Need-returns
 unfolding mostEntries
-returns c = ap (λ (t : Entry). replicate 255 t) (c .no-entry .ensures) ∙ sym (padded-none 255 noEntry)
+returns c = ap (λ (t : Entry). replicate mostEntries t) (c .no-entry .ensures) ∙ sym (padded-none mostEntries noEntry)
 
 pub no-entries-spec : {M : Type 1} → statement M
 no-entries-spec = tie.close (tie.spec no-entry-requires returns)

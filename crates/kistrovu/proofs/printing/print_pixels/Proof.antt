@@ -67,7 +67,7 @@ returns : tie.Need-returns
 unfolding mostEntries over
 returns c =
     let m = c .before .before .before in
-    let many = lt-ltb 255 (length (entries (pos programCloseness) (pixelsOf (pixels m)))) (omega (arith, total-made m)) in
+    let many = lt-ltb mostEntries (length (entries (pos programCloseness) (pixelsOf (pixels m)))) (omega (arith, total-made m)) in
     (rw many (record { numbered = refl; long = refl; written = refl }), sound m)
 
 cast-print-card : tie.Need-cast-print-card
@@ -92,7 +92,7 @@ cast-t13 c =
     let w = c .before .before .print-card in
     let m = c .before .before .before .before .before .before .before .before in
     let r = m .swatch-entries .result in
-    let few : length (take (r .total) (r .entries)) ≤ 255 = rw (held m (omega arith)) (omega (arith, total-made m)) in
+    let few : length (take (r .total) (r .entries)) ≤ mostEntries = rw (held m (omega arith)) (omega (arith, total-made m)) in
     omega (arith, w .ensures .1, printed-fits (length (pixels m) / 3) 0 (take (r .total) (r .entries)) few)
 
 same-length : tie.Need-same-length
@@ -105,7 +105,7 @@ returns-2 c =
     let m = c .before .before .before .before .before .before .before .before in
     let es = entries (pos 0) (pixelsOf (pixels m)) in
     let long = pixels-length (pixels m) (length (pixels m) / 3) (start m .pre .0) in
-    let one = le-ltb 255 (length es) (omega (arith, total-made m)) in
+    let one = le-ltb mostEntries (length es) (omega (arith, total-made m)) in
     let text = ap (λ (xs : List Entry). printedCard (length (pixels m) / 3) 0 xs) (held m (omega arith)) ∙ ap (λ (k : ℕ). printedCard k 0 es) (sym long) in (
       rw one (record {
         numbered = refl;

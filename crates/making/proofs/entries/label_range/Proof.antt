@@ -28,6 +28,9 @@ loop-holds c = (omega arith, refl, refl)
 cast-labels : tie.Need-cast-labels Inv-loop μ-loop
 cast-labels c = omega (arith, c .shared-slice-known .given (c .before .before .loop .at))
 
+mul-labels-2 : tie.Need-mul-labels-2 Inv-loop μ-loop
+mul-labels-2 c = omega (arith, c .shared-slice-known .given (c .before .before .loop .at))
+
 slice-write-labels : tie.Need-slice-write-labels Inv-loop μ-loop
 slice-write-labels c = let l = c .before .before .loop in omega (arith, entry (c .before .before) .pre (l .at) (omega arith), l .inv .1)
 
@@ -57,6 +60,7 @@ label-range-spec =
     (λ c. search needs)
     (λ c. search needs)
     cast-labels
+    mul-labels-2
     slice-write-labels
     (λ c. search needs)
     (λ c. search needs)
