@@ -10,7 +10,10 @@ use native.Mathlib.Omega.{arith}
 use native.Mathlib.Decide.{ℕ-discrete}
 use borrow.Author.Tests.{ltb-true, ltb-false, lt-ltb, eqb-true, eq-eqb}
 use Rattle.lists.specs.Lists.{padded, firstIndex}
+use Rattle.lists.proofs.Buffers.{padded-more}
 use Rattle.lists.proofs.Cases.{by-cond}
+use Rattle.lists.proofs.Firsts.{first-up-to}
+use Rattle.lists.proofs.Flattened.{map-below}
 use Rattle.verdict.specs.Test.{Closeness}
 use Rattle.pixel.specs.declared.Pixel.{Pixel}
 use Rattle.palette.specs.declared.Entry.{Entry}
@@ -28,29 +31,6 @@ use Rattle.kistrovu.proofs.Cards.{card-turned-down, asked-none}
 pub own-limit : OwnLimit
 unfolding cardUpTo cardNumberUpTo cardAnswer servedEntries cardNumber labelsUpTo labelList printedUpTo textNumberUpTo printedAnswer printed textNumber printedMost
 own-limit = record { card = λ e bytes places. refl; labels = λ e bytes list. refl; text = λ text. refl }
-
--- ---- lists
-padded-more : {A : Type 0} (m n : ℕ) (z : A) (xs : List A) → length xs ≤ m → m ≤ n → padded n z xs ≡ padded m z xs ++ replicate (n - m) z
-unfolding padded
-padded-more m n z xs h k =
-    let e : n - length xs ≡ m - length xs + (n - m) = omega arith in
-    ap (λ (c : ℕ). xs ++ replicate c z) e
-    ∙ ap (λ (ys : List _). xs ++ ys) (sym (replicate-append-replicate (m - length xs) (n - m) z))
-    ∙ sym (append-assoc xs (replicate (m - length xs) z) (replicate (n - m) z))
-
-first-up-to : {A : Type 0} (test : A → Bool) (xs : List A) → firstIndex test xs ≤ length xs
-unfolding firstIndex
-first-up-to test [] = omega arith
-first-up-to test (x ∷ xs) = go (test x) (first-up-to test xs)
-  where
-    go : (t : Bool) → firstIndex test xs ≤ length xs → cond t 0 (suc (firstIndex test xs)) ≤ suc (length xs)
-    go true h = omega arith
-    go false h = omega arith
-
-map-below : {A : Type 0} (f : A → ℕ) (n : ℕ) → 0 < n → ((x : A) → f x < n) → (xs : List A) (i : ℕ) → getD (map f xs) i 0 < n
-map-below f n some h [] i = some
-map-below f n some h (x ∷ xs) zero = h x
-map-below f n some h (x ∷ xs) (suc i) = map-below f n some h xs i
 
 -- ---- limits
 byte-below-most : mostByteEntries ≤ mostEntries

@@ -300,7 +300,7 @@ pub extern "C" fn kistrovu_widen_labels(narrow: &[u8], labels: &mut [u16]) -> u3
 {
     let number = grounds::widen_number(narrow, labels.len());
     if number == 0 {
-        widening::widen_labels(narrow, labels);
+        labels::widen_labels(narrow, labels);
     }
     number
 }

@@ -2,6 +2,7 @@
 use crate::Sums;
 use dividing::MODE_BASE;
 use dividing::pixel_at;
+use labels::label_of;
 use palette::Entry;
 use palette::MOST_ENTRIES;
 use palette::no_entry;
@@ -108,7 +109,7 @@ pub fn write_labels(numbers: &[u16], sizes: &[u32], labels: &mut [u16])
     let mut k = 0;
     while k < sizes.len() {
         let end = at + sizes[k] as usize;
-        label_range(&numbers[at..end], k as u16, labels);
+        label_range(&numbers[at..end], label_of(k), labels);
         at = end;
         k += 1;
     }

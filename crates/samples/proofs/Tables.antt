@@ -10,12 +10,14 @@ use Rattle.segmentation.specs.Joining.{riseOf, fallOf, joined, join, riseCost, 
 use Rattle.segmentation.specs.Around.{twice, nextRound, joinTwice, joinRound}
 use Rattle.segmentation.specs.Ring.{opening, opened, ringBin, linePlace, fromOpening, twoTurns, ringModes, ringStarts, inRound, inRingMode}
 use Rattle.listing.specs.Listing.{ringSeparators}
-use Rattle.grounds.specs.Grounds.{firstGround, verdictNumber}
+use Rattle.grounds.specs.Grounds.{firstGround, verdictNumber, widenNumber}
 use Rattle.joinlog.specs.JoinLog.{joinsMade, madeOnLine, logOf, lineLog, sameNumber, sameNumbers}
 use Rattle.samples.specs.Starred.{StarredHold}
 use Rattle.samples.specs.Guards.{GuardsHold}
 use Rattle.samples.specs.Rings.{RingsHold, JoinsRoundHold}
+use Rattle.kistrovu.specs.Answers.{widenedList}
 use Rattle.samples.specs.Logs.{LogsHold}
+use Rattle.samples.specs.Widenings.{WideningsHold}
 
 pub starred-hold : StarredHold
 unfolding part numbers filter countIf firstThat largestThat firstLowest largest intensityBin chromaSquared saturationOf saturationBin isGrey tangents huePoint quarter turnedBack turnedOf tangentsPassed hueAt hueOf hueBin measuresOf roundCount unitsPerBit floorLog rounds lg push blocks fitted placesFrom placeOf massWithin massAcross fittedMass weight partWeight bar largestWeight cost risesAbove isValley firstSeparators firstHighest segmentsFrom firstSegments riseOf fallOf joined join riseCost fallCost joinOf cheapest nextAmong nextJoin joinAll lineModes lineSeparators
@@ -36,3 +38,7 @@ joins-round-hold = refl
 pub logs-hold : LogsHold
 unfolding part numbers filter countIf firstThat largestThat firstLowest largest roundCount unitsPerBit floorLog rounds lg push blocks fitted placesFrom placeOf massWithin massAcross fittedMass weight partWeight bar largestWeight cost risesAbove isValley firstSeparators firstHighest segmentsFrom firstSegments riseOf fallOf joined join riseCost fallCost joinOf cheapest nextAmong nextJoin joinsMade madeOnLine logOf lineLog sameNumber sameNumbers
 logs-hold = refl
+
+pub widenings-hold : WideningsHold
+unfolding numbers firstGround widenNumber widenedList
+widenings-hold = refl

@@ -4,3 +4,4 @@ pub mod Guards
 pub mod Rings
 pub mod Printed
 pub mod Logs
+pub mod Widenings

@@ -20,7 +20,8 @@ use Rattle.segmentation.specs.Joining.{lineModes, lineSeparators}
 use Rattle.segmentation.specs.Ring.{ringModes, inRingMode}
 use Rattle.joinlog.specs.JoinLog.{lineLog, sameNumbers}
 use Rattle.listing.specs.Listing.{ringSeparators}
-use Rattle.grounds.specs.Grounds.{verdictNumber}
+use Rattle.grounds.specs.Grounds.{verdictNumber, widenNumber}
+use Rattle.kistrovu.specs.Answers.{widenedList}
 
 pub data Sample : Type 0 where
   -- R, G, B; then Q, or the four measures
@@ -46,6 +47,8 @@ pub data Sample : Type 0 where
   round : Closeness → (bins : List ℕ) → List Segment → Sample
   -- the separators of a ring as they are listed, and each bin's mode
   ring : Closeness → (bins : List ℕ) → (separators : List ℕ) → (modes : List ℕ) → Sample
+  -- labels of one byte, widened into a lent list: the number, and the list as it is left
+  widen : (narrow list : List ℕ) → (number : ℕ) → (left : List ℕ) → Sample
 
 -- so many bins of 1,000, one of 999, and so many of 1,000: two segments, hardly apart
 abbrev pub dip : ℕ → ℕ → List ℕ
@@ -88,6 +91,8 @@ pub data Result : Type 0 where
   signed : List ℤ → Result
   -- the separators of a ring, and each bin's mode
   numbered : List ℕ → List ℕ → Result
+  -- the number of a call, and a list as it is left
+  answered : ℕ → List ℕ → Result
 
 -- what the definitions make of a row
 abbrev pub computed : Sample → Result
@@ -106,6 +111,7 @@ computed (replay e h log is) = truth (sameNumbers log (lineLog e h))
 computed (round e h ss) = segments (ringModes e h)
 computed (ring e h separators ms) =
     numbered (ringSeparators e h) (map (λ b. firstMode e h (length (ringModes e h)) b) (numbers 0 (length h)))
+computed (widen narrow list n left) = answered (widenNumber narrow (length list)) (widenedList narrow list)
 
 -- what the row says
 abbrev pub stated : Sample → Result
@@ -123,6 +129,7 @@ stated (joins e h log) = signed log
 stated (replay e h log is) = truth is
 stated (round e h ss) = segments ss
 stated (ring e h separators ms) = numbered separators ms
+stated (widen narrow list n left) = answered n left
 
 -- every row of a table holds
 abbrev pub AllHold : List Sample → Type 0

@@ -3,10 +3,10 @@ use Prim.Native.Nat.{ℕ, _+_, _-_, _≤_}
 use mathlib.Core.Path.{refl, ap, _∙_}
 use native.Mathlib.Omega.{arith}
 use borrow.Author.Needs.{needs}
-use lib.ListN.{length, getD}
+use lib.ListN.{length, take, drop, getD}
 use Rattle.lists.specs.Lists.{total}
 use Rattle.palette.specs.Cards.{mostEntries}
-use Rattle.making.specs.Making.{labelsBy}
+use Rattle.making.specs.Making.{labelled, labelsBy}
 use Rattle.making.proofs.Laid.{next-within, part-in}
 use Rattle.making.proofs.Labelled.{LabelsGiven, given-more}
 use Rattle.making.proofs.entries.write_labels.Statement.{statement}
@@ -44,29 +44,39 @@ mul-label-range c = omega (arith, next (c .before), entry (c .before .before) .p
 part-label-range-end : tie.Need-part-label-range-end Inv-loop μ-loop
 part-label-range-end c = omega (arith, next (c .before), entry (c .before .before) .pre .whole)
 
-cast-label-range : tie.Need-cast-label-range Inv-loop μ-loop
+-- the way from a call of the pass back to where the pass begins
+abbrev pass : tie.After-label-range-arg Inv-loop μ-loop → tie.In-loop Inv-loop μ-loop
+pass c = c .before .before
+
+label-of-requires : tie.Need-label-of-requires Inv-loop μ-loop
 unfolding mostEntries
-cast-label-range c = omega (arith, entry (c .before .before .before) .pre .few)
+label-of-requires c κs = omega (arith, entry (pass c .before) .pre .few)
 
 label-range-requires : tie.Need-label-range-requires Inv-loop μ-loop
 label-range-requires c κs =
-    let i = c .before .before .before in
+    let i = pass (c .before .before) in
     let l = i .before .loop in
     let a = entry (i .before) .args in
     let p = entry (i .before) .pre in
     λ j h. omega (arith, part-in (a .numbers .now) (a .sizes .now) (length (a .labels .now)) p (l .k) (l .at) (l .inv .start) (i .loop-test .taken) j h, l .inv .long)
 
+-- the way from the end of the pass to its label
+abbrev labelling : tie.After-slice-known2 Inv-loop μ-loop → tie.After-label-of Inv-loop μ-loop
+labelling c = c .before .before .before .before
+
 add-k : tie.Need-add-k Inv-loop μ-loop
 unfolding mostEntries
-add-k c = omega (arith, entry (c .before .before .before .before .before .before .before) .pre .few)
+add-k c = omega (arith, entry (pass (labelling c .before) .before) .pre .few)
 
 loop-again : tie.Need-loop-again Inv-loop μ-loop
 loop-again c =
-    let i = c .before .before .before .before .before .before in
+    let i = pass (labelling c .before) in
     let l = i .before .loop in
     let a = entry (i .before) .args in
     let w = c .before .before .label-range in
-    given-more (a .numbers .now) (a .sizes .now) (a .labels .now) (length (a .labels .now)) (entry (i .before) .pre) (l .k) (l .at) (l .labels) (l .inv) (i .loop-test .taken) (w .last .1 .1 .0) (w .ensures)
+    let part = take (l .at + getD (a .sizes .now) (l .k) 0 - l .at) (drop (l .at) (a .numbers .now)) in
+    given-more (a .numbers .now) (a .sizes .now) (a .labels .now) (length (a .labels .now)) (entry (i .before) .pre) (l .k) (l .at) (l .labels) (l .inv) (i .loop-test .taken) (w .last .1 .1 .0)
+    (w .ensures ∙ ap (λ (n : ℕ). labelled n part (l .labels)) (labelling c .label-of .ensures))
 
 same-length : tie.Need-same-length Inv-loop μ-loop
 same-length c = c .before .loop .inv .long
@@ -92,7 +102,7 @@ write-labels-spec =
     (λ c. omega arith)
     (λ c. omega arith)
     part-label-range-end
-    cast-label-range
+    label-of-requires
     label-range-requires
     add-k
     (λ c. search needs)

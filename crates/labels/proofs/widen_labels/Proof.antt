@@ -6,8 +6,8 @@ use borrow.Author.Needs.{needs}
 use lib.ListN.{length, take, length-set}
 use Rattle.lists.specs.Lists.{over}
 use Rattle.lists.proofs.Buffers.{over-none, over-next, over-done}
-use Rattle.widening.proofs.widen_labels.Statement.{statement}
-use Rattle.widening.proofs.widen_labels.Tie as tie
+use Rattle.labels.proofs.widen_labels.Statement.{statement}
+use Rattle.labels.proofs.widen_labels.Tie as tie
 
 abbrev Inv-loop : tie.InvT-loop
 Inv-loop narrow labels₀ i₀ labels i = (i ≤ length labels₀) × (length labels ≡ length labels₀) × (labels ≡ over (take i narrow) labels₀)
@@ -18,23 +18,24 @@ abbrev μ-loop : tie.MeasureT-loop
 loop-holds : tie.Need-loop-holds Inv-loop μ-loop
 loop-holds c = (search needs, refl, sym (over-none _))
 
-cast-labels : tie.Need-cast-labels Inv-loop μ-loop
-cast-labels c = omega (arith, c .shared-slice-known .given (c .before .before .loop .i))
+-- the way to the call
+abbrev entry : tie.At-loop Inv-loop μ-loop → tie.Start Inv-loop μ-loop
+entry c = c .before .before .before
 
 loop-again : tie.Need-loop-again Inv-loop μ-loop
 loop-again c =
-    let l = c .before .before .loop in
-    let a = c .before .before .before in (
+    let l = c .before .before .before .loop in
+    let a = entry (c .before .before .before) .args in (
       omega arith,
       simp length-set (l .inv .1),
-      rw (l .inv .2) (over-next (a .args .narrow .now) (a .args .labels .now) 0 (l .i) _ (omega arith) (omega arith) refl),
+      rw (l .inv .2) (over-next (a .narrow .now) (a .labels .now) 0 (l .i) _ (omega arith) (omega arith) (c .widened .ensures)),
     )
 
 returns : tie.Need-returns Inv-loop μ-loop
 returns c =
     let l = c .before .loop in
-    let a = c .before .before in
-    l .inv .2 ∙ over-done (a .args .narrow .now) (a .args .labels .now) (l .i) (omega arith) (omega arith)
+    let a = entry (c .before) .args in
+    l .inv .2 ∙ over-done (a .narrow .now) (a .labels .now) (l .i) (omega arith) (omega arith)
 
 pub widen-labels-spec : {M : Type 1} → statement M
 widen-labels-spec =
@@ -44,7 +45,7 @@ widen-labels-spec =
     μ-loop
     loop-holds
     (λ c. search needs)
-    cast-labels
+    (λ c. search needs)
     (λ c. search needs)
     (λ c. search needs)
     (λ c. search needs)
