@@ -1,15 +1,15 @@
--- A limit on entries has no say in the cards and texts that keep to a lower one: rule C10. Assumes nothing.
-use Prim.Native.Nat.{ℕ, zero, suc, _+_, _-_, _*_, _/_, _≤_, _<_, _^_}
+-- A lower limit on entries changes no card and no text that keeps to it, and widening its labels gives the labels: rule C10. Assumes nothing.
+use Prim.Native.Nat.{ℕ, _/_, _≤_, _<_, _^_}
 use mathlib.Core.Path.{_≡_, refl, sym, ap, _∙_}
-use mathlib.Core.Bool.{Bool, true, false, cond}
-use mathlib.Core.List.{List, [], _∷_, _++_, map, append-assoc}
+use mathlib.Core.Bool.{true}
+use mathlib.Core.List.{List, [], _∷_, map}
 use lib.Dec.{eqb, ltb}
 use lib.IntN.{pos}
-use lib.ListN.{length, getD, replicate, length-map, replicate-append-replicate}
+use lib.ListN.{length, getD, length-map}
 use native.Mathlib.Omega.{arith}
 use native.Mathlib.Decide.{ℕ-discrete}
 use borrow.Author.Tests.{ltb-true, ltb-false, lt-ltb, eqb-true, eq-eqb}
-use Rattle.lists.specs.Lists.{padded, firstIndex}
+use Rattle.lists.specs.Lists.{padded}
 use Rattle.lists.proofs.Buffers.{padded-more}
 use Rattle.lists.proofs.Cases.{by-cond}
 use Rattle.lists.proofs.Firsts.{first-up-to}
@@ -32,14 +32,9 @@ pub own-limit : OwnLimit
 unfolding cardUpTo cardNumberUpTo cardAnswer servedEntries cardNumber labelsUpTo labelList printedUpTo textNumberUpTo printedAnswer printed textNumber printedMost
 own-limit = record { card = λ e bytes places. refl; labels = λ e bytes list. refl; text = λ text. refl }
 
--- ---- limits
-byte-below-most : mostByteEntries ≤ mostEntries
-unfolding mostEntries
-byte-below-most = omega arith
-
--- more entries than the higher limit are more than the lower one
-above : (n : ℕ) → ltb mostEntries n ≡ true → ltb mostByteEntries n ≡ true
-above n t = lt-ltb mostByteEntries n (omega (arith, byte-below-most, ltb-true mostEntries n t))
+-- more entries than a limit are more than a lower one
+above : (few : ℕ) → few ≤ mostEntries → (n : ℕ) → ltb mostEntries n ≡ true → ltb few n ≡ true
+above few low n t = lt-ltb few n (omega (arith, low, ltb-true mostEntries n t))
 
 -- ---- the card call
 module _ (e : Closeness) (bytes list : List ℕ) where
@@ -49,9 +44,9 @@ module _ (e : Closeness) (bytes list : List ℕ) where
   abbrev asked : List Ground
   asked = badBytes bytes ∷ manyPixels bytes ∷ badCloseness e ∷ badLabels (length bytes / 3) (length list) ∷ []
 
-  card-number-kept : ¬ (cardNumberUpTo mostByteEntries e bytes (length list) ≡ 11) → cardNumber e bytes (length list) ≡ cardNumberUpTo mostByteEntries e bytes (length list)
+  card-number-kept : (few : ℕ) → few ≤ mostEntries → ¬ (cardNumberUpTo few e bytes (length list) ≡ 11) → cardNumber e bytes (length list) ≡ cardNumberUpTo few e bytes (length list)
   unfolding cardNumberUpTo cardNumber
-  card-number-kept n = last-kept asked (manyAbove mostByteEntries e bytes) (manyEntries e bytes) (above (length found)) n
+  card-number-kept few low n = last-kept asked (manyAbove few e bytes) (manyEntries e bytes) (above few low (length found)) n
 
   -- a card that is served keeps to the limit
   card-few : (most : ℕ) → cardNumberUpTo most e bytes (length list) ≡ 0 → length found ≤ most
@@ -64,15 +59,12 @@ module _ (e : Closeness) (bytes list : List ℕ) where
 
 pub cards-kept : CardsKept
 unfolding cardUpTo cardAnswer servedEntries labelsUpTo labelList
-cards-kept e bytes list n =
-    let same = card-number-kept e bytes list n in
+cards-kept few low e bytes list n =
+    let same = card-number-kept e bytes list few low n in
     record {
-      card = record {
-        number = same;
-        len = ap (λ (k : ℕ). length (served k (found e bytes list) [])) same;
-        entries = ap (λ (k : ℕ). padded mostEntries noEntry (served k (found e bytes list) [])) same
-            ∙ padded-more mostByteEntries mostEntries noEntry _ (served-few e bytes list mostByteEntries) byte-below-most;
-      };
+      number = same;
+      len = ap (λ (k : ℕ). length (served k (found e bytes list) [])) same;
+      entries = ap (λ (k : ℕ). padded mostEntries noEntry (served k (found e bytes list) [])) same ∙ padded-more few mostEntries noEntry _ (served-few e bytes list few) low;
       labels = ap (λ (k : ℕ). served k (labels e (pixelsOf bytes)) list) same;
     }
 
@@ -106,10 +98,14 @@ label-byte e bytes list z i =
     let ps = pixelsOf bytes in
     map-below (label e ps) (2 ^ 8) (omega arith) (λ p. omega (arith, label-up-to e ps p, card-few e bytes list mostByteEntries z)) ps i
 
+byte-below-most : mostByteEntries ≤ mostEntries
+unfolding mostEntries
+byte-below-most = omega arith
+
 pub labels-narrow : LabelsNarrow
 unfolding labelsUpTo
 labels-narrow e bytes list z =
-    let kept = card-number-kept e bytes list (λ q. absurd (omega (arith, z, q))) in
+    let kept = card-number-kept e bytes list mostByteEntries byte-below-most (λ q. absurd (omega (arith, z, q))) in
     record {
       fit = λ i. rw z (label-byte e bytes list z i);
       widened = λ lent same. rw z (labels-widened e bytes list lent (kept ∙ z) same);
@@ -129,9 +125,9 @@ module _ (text : List ℕ) where
   abbrev read : List Ground
   read = noHeader text ∷ wrongSize text ∷ badLines text ∷ []
 
-  text-number-kept : ¬ (textNumberUpTo mostByteEntries text ≡ 11) → textNumber text ≡ textNumberUpTo mostByteEntries text
+  text-number-kept : (few : ℕ) → few ≤ mostEntries → ¬ (textNumberUpTo few text ≡ 11) → textNumber text ≡ textNumberUpTo few text
   unfolding textNumberUpTo textNumber
-  text-number-kept n = last-kept read (manyAbove mostByteEntries (pos programCloseness) (bytesOf text)) (manyEntries (pos programCloseness) (bytesOf text)) (above (length es)) n
+  text-number-kept few low n = last-kept read (manyAbove few (pos programCloseness) (bytesOf text)) (manyEntries (pos programCloseness) (bytesOf text)) (above few low (length es)) n
 
   text-few : (most : ℕ) → textNumberUpTo most text ≡ 0 → length es ≤ most
   unfolding textNumberUpTo
@@ -145,11 +141,10 @@ module _ (text : List ℕ) where
 
 pub texts-kept : TextsKept
 unfolding printedUpTo printedAnswer printed printedMost
-texts-kept text n =
-    let same = text-number-kept text n in
+texts-kept few low text n =
+    let same = text-number-kept text few low n in
     record {
       number = same;
       len = ap (λ (k : ℕ). length (served k (card text) [])) same;
-      bytes = ap (λ (k : ℕ). padded printedMost 0 (served k (card text) [])) same
-          ∙ padded-more (roomUpTo mostByteEntries) printedMost 0 _ (printed-few text mostByteEntries) (omega (arith, byte-below-most));
+      bytes = ap (λ (k : ℕ). padded printedMost 0 (served k (card text) [])) same ∙ padded-more (roomUpTo few) printedMost 0 _ (printed-few text few) (omega (arith, low));
     }

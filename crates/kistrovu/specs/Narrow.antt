@@ -1,5 +1,5 @@
--- C10: a card that keeps to a lower limit on entries does not depend on the limit. Said of 255, the most where labels have one byte. Assumes nothing.
-use Prim.Native.Nat.{ℕ, _+_, _-_, _*_, _/_, _<_, _^_}
+-- C10: a lower limit on entries changes no card that keeps to it, and labels of one byte are those of the limit 255. Assumes nothing.
+use Prim.Native.Nat.{ℕ, _+_, _-_, _*_, _/_, _≤_, _<_, _^_}
 use mathlib.Core.Path.{_≡_}
 use mathlib.Core.List.{List, [], _∷_, _++_}
 use lib.Dec.{ltb}
@@ -51,26 +51,33 @@ pub record OwnLimit : Type 0 where
   pub labels : (e : Closeness) (bytes list : List ℕ) → labelsUpTo mostEntries e bytes list ≡ labelList e bytes list
   pub text : (text : List ℕ) → printedUpTo mostEntries text ≡ printedAnswer text
 
--- the most entries where a label has one byte
+-- C10: what a limit of `few` entries leaves as it is, with zeros in the places that a card or a text then lacks
+module _ (few : ℕ) where
+  -- a card call: the number, the entries and the labels
+  pub record CardKept (e : Closeness) (bytes list : List ℕ) : Type 0 where
+    pub number : cardAnswer e bytes (length list) .number ≡ cardUpTo few e bytes (length list) .number
+    pub len : cardAnswer e bytes (length list) .len ≡ cardUpTo few e bytes (length list) .len
+    pub entries : cardAnswer e bytes (length list) .entries ≡ cardUpTo few e bytes (length list) .entries ++ replicate (mostEntries - few) noEntry
+    pub labels : labelList e bytes list ≡ labelsUpTo few e bytes list
+
+  -- a text call: the number and the bytes
+  pub record TextKept (text : List ℕ) : Type 0 where
+    pub number : printedAnswer text .number ≡ printedUpTo few text .number
+    pub len : printedAnswer text .len ≡ printedUpTo few text .len
+    pub bytes : printedAnswer text .bytes ≡ printedUpTo few text .bytes ++ replicate (printedMost - roomUpTo few) 0
+
+-- C10: all of that, for every lower limit, wherever it does not turn the call down (G11). Proved in proofs/Narrow
+abbrev pub CardsKept : Type 0
+CardsKept = (few : ℕ) → few ≤ mostEntries → (e : Closeness) (bytes list : List ℕ) → ¬ (cardNumberUpTo few e bytes (length list) ≡ 11) → CardKept few e bytes list
+
+abbrev pub TextsKept : Type 0
+TextsKept = (few : ℕ) → few ≤ mostEntries → (text : List ℕ) → ¬ (textNumberUpTo few text ≡ 11) → TextKept few text
+
+-- C10: the most entries where a label had one byte
 abbrev pub mostByteEntries : ℕ
 mostByteEntries = 255
 
--- C10: two cards of the same number and the same entries, in so many places and in more, and as many of the rest as there are more
-pub record SameCard (narrow wide : Card) : Type 0 where
-  pub number : wide .number ≡ narrow .number
-  pub len : wide .len ≡ narrow .len
-  pub entries : wide .entries ≡ narrow .entries ++ replicate (mostEntries - mostByteEntries) noEntry
-
--- C10: a card call that is not turned down for more than 255 entries answers the same, served or turned down, and leaves the same labels
-pub record CardKept (e : Closeness) (bytes list : List ℕ) : Type 0 where
-  pub card : SameCard (cardUpTo mostByteEntries e bytes (length list)) (cardAnswer e bytes (length list))
-  pub labels : labelList e bytes list ≡ labelsUpTo mostByteEntries e bytes list
-
--- proved in proofs/Narrow
-abbrev pub CardsKept : Type 0
-CardsKept = (e : Closeness) (bytes list : List ℕ) → ¬ (cardNumberUpTo mostByteEntries e bytes (length list) ≡ 11) → CardKept e bytes list
-
--- C10: the labels of a card of at most 255 entries fit one byte each, and widening them (C9) gives the labels of the card call
+-- C10: the labels of a card under that limit fit one byte each, and widening them (C9) gives the labels of the card call
 pub record LabelsKept (e : Closeness) (bytes list : List ℕ) : Type 0 where
   pub fit : (i : ℕ) → getD (labelsUpTo mostByteEntries e bytes list) i 0 < 2 ^ 8
   pub widened : (lent : List ℕ) → length lent ≡ length list → widenedList (labelsUpTo mostByteEntries e bytes list) lent ≡ labelList e bytes lent
@@ -78,13 +85,3 @@ pub record LabelsKept (e : Closeness) (bytes list : List ℕ) : Type 0 where
 -- proved in proofs/Narrow
 abbrev pub LabelsNarrow : Type 0
 LabelsNarrow = (e : Closeness) (bytes list : List ℕ) → IfServed (cardNumberUpTo mostByteEntries e bytes (length list)) (LabelsKept e bytes list)
-
--- C10: a text that is not turned down for more than 255 entries gets the same number, and the same bytes are printed
-pub record TextKept (text : List ℕ) : Type 0 where
-  pub number : printedAnswer text .number ≡ printedUpTo mostByteEntries text .number
-  pub len : printedAnswer text .len ≡ printedUpTo mostByteEntries text .len
-  pub bytes : printedAnswer text .bytes ≡ printedUpTo mostByteEntries text .bytes ++ replicate (printedMost - roomUpTo mostByteEntries) 0
-
--- proved in proofs/Narrow
-abbrev pub TextsKept : Type 0
-TextsKept = (text : List ℕ) → ¬ (textNumberUpTo mostByteEntries text ≡ 11) → TextKept text
