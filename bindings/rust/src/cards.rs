@@ -38,7 +38,7 @@ pub struct Entry {
     pub count: u32,
 }
 
-/// The entries of a card, a slice of 1 to 255: greys in the order of their modes, then colours in that of hue, saturation
+/// The entries of a card, a slice of 1 to 1,000: greys in the order of their modes, then colours in that of hue, saturation
 /// and intensity mode.
 #[derive(Clone, Copy, PartialEq, Eq)]
 pub struct Entries {
@@ -64,11 +64,11 @@ impl fmt::Debug for Entries {
 #[cfg(feature = "alloc")]
 #[derive(Clone, Debug, PartialEq, Eq)]
 pub struct Card {
-    /// The entries, 1 to 255: greys in the order of their modes, then colours in that of hue, saturation and intensity
+    /// The entries, 1 to 1,000: greys in the order of their modes, then colours in that of hue, saturation and intensity
     /// mode.
     pub entries: Vec<Entry>,
     /// For each pixel the number of its entry, from 0.
-    pub labels: Vec<u8>,
+    pub labels: Vec<u16>,
 }
 
 /// The card of an image of three bytes (R, G, B) a pixel. The thread needs 1 MB of stack. Grounds:
@@ -103,8 +103,8 @@ pub struct Card {
 /// assert_eq!(card(&[0; 3 * 65_537], 0), Err(Ground::Pixels));
 /// assert_eq!(card(&[200, 0, 0], 21), Err(Ground::Closeness));
 ///
-/// // The colours of a cube of 8 × 8 × 8, 128 pixels of each, are more than a card may hold.
-/// let levels = |place: u32| [place % 8, place / 8 % 8, place / 64 % 8].map(|level| 36 * level as u8);
+/// // A cube of 12 × 12 × 12 colours, 37 pixels of each or more, has more entries than a card may hold.
+/// let levels = |place: u32| [place % 12, place / 12 % 12, place / 144 % 12].map(|level| 23 * level as u8);
 /// let cube: Vec<u8> = (0..65_536).flat_map(levels).collect();
 /// assert_eq!(card(&cube, 0), Err(Ground::Entries));
 /// # Ok::<(), Ground>(())
@@ -139,14 +139,14 @@ pub fn card(pixels: &[u8], closeness: i32) -> Result<Card, Ground> {
 /// assert_eq!(labels, [99; 4]);
 ///
 /// // As in the example of `card`.
-/// # let levels = |place: u32| [place % 8, place / 8 % 8, place / 64 % 8].map(|level| 36 * level as u8);
+/// # let levels = |place: u32| [place % 12, place / 12 % 12, place / 144 % 12].map(|level| 23 * level as u8);
 /// let cube: Vec<u8> = (0..65_536).flat_map(levels).collect();
 /// let mut labels = vec![99; 65_536];
 /// assert_eq!(card_into(&cube, 0, &mut labels), Err(Ground::Entries));
 /// assert_eq!(labels, [99; 65_536]);
 /// # Ok::<(), Ground>(())
 /// ```
-pub fn card_into(pixels: &[u8], closeness: i32, labels: &mut [u8]) -> Result<Entries, Ground> {
+pub fn card_into(pixels: &[u8], closeness: i32, labels: &mut [u16]) -> Result<Entries, Ground> {
     let (start, bytes) = (pixels.as_ptr(), pixels.len());
     let (list, places) = (labels.as_mut_ptr(), labels.len());
     // SAFETY: each pointer and its length are those of one slice, lent for the time of the call; the two slices do not
@@ -205,7 +205,13 @@ mod tests {
 
     #[test]
     fn there_are_no_more_entries_than_places() {
-        for (len, expected) in [(1, 1), (255, 255), (256, 255), (u32::MAX, 255)] {
+        for (len, expected) in [
+            (1, 1),
+            (256, 256),
+            (1_000, 1_000),
+            (1_001, 1_000),
+            (u32::MAX, 1_000),
+        ] {
             assert_eq!(read(&answer(0, len)).unwrap().len(), expected);
         }
     }

@@ -63,9 +63,9 @@ grounds! {
     Bins = 6: "The histogram has fewer than 2 bins or more than 256.",
     Sum = 7: "The counts of the histogram add up to more than 65,536.",
     Closeness = 8: "The closeness is below -10 or above 20.",
-    Labels = 9: "The label buffer does not have one place for each pixel.",
+    Labels = 9: "The label buffer does not have one place for each pixel, or for each one-byte label that is read into it.",
     Separators = 10: "The separator list, or the list to write a log in, has fewer places than the histogram has bins.",
-    Entries = 11: "The card would have more than 255 entries.",
+    Entries = 11: "The card would have more than 1,000 entries.",
     Log = 20: "The log is not the one that the method writes for the line.",
 }
 

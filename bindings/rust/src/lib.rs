@@ -28,6 +28,7 @@
 //! | [`join_log`], [`join_log_into`] | how a line came to its modes: a record of each join | 6, 7, 8; into a log also 10 |
 //! | [`replay`], [`replay_into`] | the modes of a line by a log of its joins | 6, 7, 8, 20; into a list also 10 |
 //! | [`card`], [`card_into`] | the card of an image and the label of each pixel | 4, 5, 8, 11; into labels also 9 |
+//! | [`widen_labels`], [`widen_labels_into`] | labels of one byte, as up to version 5, as labels of 16 bits | none; into labels 9 |
 //! | [`print_card`] | the text of the card of a swatch that is given as text | 1, 2, 3, 11 |
 //! | [`print_ground`] | the line that the card program prints for a swatch that is turned down | none |
 //! | [`version`] | the version of the library | none |
@@ -46,8 +47,9 @@
 //! image, every other call less than 20 KB. **A thread that makes cards needs 1 MB.** Threads of the standard library
 //! have 2 MB by default. The engine keeps no state, so calls may run on many threads at once.
 //!
-//! Only the calls that hand back a `Vec` ([`card`], [`line_modes`], [`ring_modes`], [`join_log`], [`replay`]) use the heap;
-//! without the feature `alloc`, which is on by default, they are left out. The crate does not need the standard library.
+//! Only the calls that hand back a `Vec` ([`card`], [`widen_labels`], [`line_modes`], [`ring_modes`], [`join_log`],
+//! [`replay`]) use the heap; without the feature `alloc`, which is on by default, they are left out. The crate does not
+//! need the standard library.
 //!
 //! # What is proved, and what is not
 //!
@@ -69,6 +71,7 @@ mod cards;
 mod grounds;
 mod histograms;
 mod joins;
+mod labels;
 mod measures;
 mod modes;
 pub mod raw;
@@ -83,6 +86,9 @@ pub use histograms::{fit, verdict, Block, Direction, Fit, Verdict};
 #[cfg(feature = "alloc")]
 pub use joins::{join_log, replay};
 pub use joins::{join_log_into, replay_into};
+#[cfg(feature = "alloc")]
+pub use labels::widen_labels;
+pub use labels::widen_labels_into;
 pub use measures::{measures, Measures};
 #[cfg(feature = "alloc")]
 pub use modes::{line_modes, ring_modes};

@@ -48,8 +48,8 @@ impl fmt::Debug for Printed {
 /// assert_eq!(ground("     0     5\n"), Ground::Size);
 /// assert_eq!(ground("     1     1\n 256   0   0\n"), Ground::Lines);
 ///
-/// // The colours of a cube of 8 × 8 × 8, 32 pixels of each, are more than a card may hold.
-/// let line = |place| format!("{:4}{:4}{:4}\n", place % 8 * 36, place / 8 % 8 * 36, place / 64 % 8 * 36);
+/// // A cube of 12 × 12 × 12 colours, 9 pixels of each or more, has more entries than a card may hold.
+/// let line = |place| format!("{:4}{:4}{:4}\n", place % 12 * 23, place / 12 % 12 * 23, place / 144 % 12 * 23);
 /// let cube: String = (0..16_384).map(line).collect();
 /// let text = format!("{:6}{:6}\n{cube}", 128, 128);
 /// assert_eq!(ground(&text), Ground::Entries);
@@ -108,9 +108,9 @@ mod tests {
     fn no_more_is_printed_than_there_is_room_for() {
         for (len, expected) in [
             (7, 7),
-            (12_514, 12_514),
-            (12_515, 12_514),
-            (u32::MAX, 12_514),
+            (49_019, 49_019),
+            (49_020, 49_019),
+            (u32::MAX, 49_019),
         ] {
             let printed = read(&answer(0, len)).unwrap();
             assert_eq!(printed.bytes().len(), expected);

@@ -1,11 +1,11 @@
 //! Lists that are lent: a call that is turned down leaves them as they were; one that is served writes nothing but the
 //! labels or the first places. And the calls that are lent no list give the same answers. A log that is replayed may hold
-//! anything.
+//! anything, and so may labels that are widened.
 
 mod common;
 
-use common::{cube, examples, file, pixels};
-use kistrovu::raw::{LEAST_CLOSENESS, MOST_BINS, MOST_CLOSENESS, MOST_PIXELS};
+use common::{cube, examples, file, of_entries, pixels, ENTRIES};
+use kistrovu::raw::{LEAST_CLOSENESS, MOST_BINS, MOST_CLOSENESS, MOST_ENTRIES, MOST_PIXELS};
 use kistrovu::*;
 use std::fmt::Debug;
 
@@ -167,12 +167,17 @@ fn limits_are_served() {
     }
 }
 
+/// Labels that no card has, unlike their neighbours in both bytes.
+fn unused_labels(places: usize) -> Vec<u16> {
+    let label = |place| u16::MAX - 257 * (place % 241) as u16;
+    (0..places).map(label).collect()
+}
+
 /// The ground; checks that the labels came back as lent.
 fn card_turned_down(pixels: &[u8], closeness: i32, places: usize) -> Ground {
-    let lent: Vec<u8> = (0..places).map(|place| (251 - place % 241) as u8).collect();
-    let mut labels = lent.clone();
+    let mut labels = unused_labels(places);
     let ground = card_into(pixels, closeness, &mut labels).unwrap_err();
-    assert_eq!(labels, lent);
+    assert_eq!(labels, unused_labels(places));
     ground
 }
 
@@ -191,6 +196,81 @@ fn a_card_that_is_turned_down_leaves_the_labels() {
     for pixels in [MOST_PIXELS / 4, MOST_PIXELS] {
         assert_eq!(card_turned_down(&cube(pixels), 0, pixels), Ground::Entries);
     }
+}
+
+#[test]
+fn the_limit_on_entries_is_one_thousand() {
+    let [served, refused] =
+        [MOST_ENTRIES, MOST_ENTRIES + 1].map(|entries| of_entries(entries)[0].clone());
+    let served = card(&pixels(&served), 0).unwrap();
+    assert_eq!(served.entries.len(), 1_000);
+    assert_eq!(served.labels.iter().max(), Some(&999));
+    let refused = pixels(&refused);
+    assert_eq!(card(&refused, 0), Err(Ground::Entries));
+    assert_eq!(
+        card_turned_down(&refused, 0, refused.len() / 3),
+        Ground::Entries
+    );
+}
+
+/// Labels of one byte, every byte among them if there are enough.
+fn narrow_labels(count: usize) -> Vec<u8> {
+    (0..count)
+        .map(|place| (place + place / 256) as u8)
+        .collect()
+}
+
+/// Longer lists than those of an image as well.
+const LENGTHS: [usize; 9] = [0, 1, 2, 255, 256, 257, 65_536, 65_537, 100_000];
+
+#[test]
+fn widened_labels_have_the_same_numbers() {
+    for count in LENGTHS {
+        let narrow = narrow_labels(count);
+        let expected: Vec<u16> = narrow.iter().map(|&label| label.into()).collect();
+        assert_eq!(widen_labels(&narrow), expected);
+        let mut lent = unused_labels(count + 2);
+        assert_eq!(widen_labels_into(&narrow, &mut lent[1..=count]), Ok(()));
+        assert_eq!(lent[1..=count], expected);
+        let around = unused_labels(count + 2);
+        assert_eq!((lent[0], lent[count + 1]), (around[0], around[count + 1]));
+    }
+}
+
+#[test]
+fn a_widening_that_is_turned_down_leaves_the_labels() {
+    for count in LENGTHS {
+        let others = [
+            0,
+            1,
+            count / 2,
+            count.saturating_sub(1),
+            count + 1,
+            2 * count,
+        ];
+        for places in others.into_iter().filter(|&places| places != count) {
+            let mut lent = unused_labels(places);
+            let turned_down = widen_labels_into(&narrow_labels(count), &mut lent);
+            assert_eq!(turned_down, Err(Ground::Labels));
+            assert_eq!(lent, unused_labels(places));
+        }
+    }
+}
+
+/// Up to 255 entries, labels fit one byte each: stored so and widened, they are the card's.
+#[test]
+fn labels_of_few_entries_are_those_of_before() {
+    let mut tried = 0;
+    for entries in ENTRIES {
+        let labels = card(&pixels(&of_entries(entries)[0]), 0).unwrap().labels;
+        let narrow: Result<Vec<u8>, _> = labels.iter().map(|&label| label.try_into()).collect();
+        assert_eq!(narrow.is_ok(), entries <= 256);
+        if let Ok(narrow) = narrow {
+            assert_eq!(widen_labels(&narrow), labels);
+            tried += 1;
+        }
+    }
+    assert!(tried > 0);
 }
 
 #[test]

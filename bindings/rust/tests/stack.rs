@@ -1,11 +1,11 @@
-//! The largest calls on a thread that has 1 MB of stack, and those of a log on one that has 64 KB. A call that took more
+//! The largest calls on a thread that has 1 MB of stack, and those of a log and of labels on one that has 64 KB. A call that took more
 //! would end the whole test program.
 
 mod common;
 
 use common::file;
 use kistrovu::raw::{MOST_BINS, MOST_ENTRIES, MOST_PIXELS, MOST_PRINTED};
-use kistrovu::{card, join_log, line_modes, print_card, replay};
+use kistrovu::{card, join_log, line_modes, print_card, replay, widen_labels};
 use std::thread::Builder;
 
 const MEGABYTE: usize = 1 << 20;
@@ -48,6 +48,12 @@ fn printed(name: &str) -> usize {
 fn the_longest_text_and_the_longest_card() {
     printed("16384-pixels");
     assert_eq!(printed(&format!("{MOST_ENTRIES}-entries")), MOST_PRINTED);
+}
+
+#[test]
+fn labels_of_the_largest_image() {
+    let widened = with_stack(LITTLE, || widen_labels(&[7; MOST_PIXELS]));
+    assert_eq!(widened, [7; MOST_PIXELS]);
 }
 
 /// As many bins and humps as there can be, which are joined to one mode.

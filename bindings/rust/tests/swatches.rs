@@ -2,20 +2,42 @@
 
 mod common;
 
-use common::{examples, file, pixels};
+use common::{examples, file, of_entries, pixels, ENTRIES};
 use kistrovu::{card, print_card, Card, Entry};
 
 struct Swatch {
+    name: String,
     text: String,
+    /// The text of its card.
+    stored: String,
     pixels: Vec<u8>,
     card: Card,
 }
 
-fn swatch(name: &str) -> Swatch {
-    let text = file(&format!("examples/{name}.swatch"));
-    let pixels = pixels(&text);
-    let card = card(&pixels, 0).expect(name);
-    Swatch { text, pixels, card }
+impl Swatch {
+    fn new(name: &str, [text, stored]: [String; 2]) -> Swatch {
+        let pixels = pixels(&text);
+        let card = card(&pixels, 0).expect(name);
+        let name = name.to_string();
+        Swatch {
+            name,
+            text,
+            stored,
+            pixels,
+            card,
+        }
+    }
+}
+
+/// The examples, and cards of many entries.
+fn swatches() -> Vec<Swatch> {
+    let example = |name: String| {
+        let files = ["swatch", "card"].map(|ending| file(&format!("examples/{name}.{ending}")));
+        Swatch::new(&name, files)
+    };
+    let full = |entries| Swatch::new(&format!("{entries} entries"), of_entries(entries));
+    let examples = examples().into_iter().map(example);
+    examples.chain(ENTRIES.map(full)).collect()
 }
 
 /// The mean of a channel over the pixels of an entry, halves rounded up.
@@ -29,8 +51,8 @@ fn mean(swatch: &Swatch, entry: usize, channel: usize) -> u32 {
 
 #[test]
 fn counts_and_means_are_those_of_the_pixels_that_bear_the_label() {
-    for name in examples() {
-        let swatch = swatch(&name);
+    for swatch in swatches() {
+        let name = &swatch.name;
         let Card { entries, labels } = &swatch.card;
         assert_eq!(labels.len(), swatch.pixels.len() / 3, "{name}");
         let mut counts = vec![0; entries.len()];
@@ -69,9 +91,14 @@ fn figures(entry: &Entry) -> [u32; 8] {
 
 #[test]
 fn cards_are_the_stored_ones_and_so_is_what_is_printed() {
-    for name in examples() {
-        let Swatch { text, pixels, card } = swatch(&name);
-        let stored = file(&format!("examples/{name}.card"));
+    for swatch in swatches() {
+        let Swatch {
+            name,
+            text,
+            stored,
+            pixels,
+            card,
+        } = swatch;
         let mut lines = line(&[card.entries.len() as u32, pixels.len() as u32 / 3, 0]);
         lines.extend(card.entries.iter().map(|entry| line(&figures(entry))));
         assert_eq!(lines, stored, "{name}");

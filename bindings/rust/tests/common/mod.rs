@@ -15,6 +15,14 @@ pub fn file(name: &str) -> String {
     fs::read_to_string(top().join(name)).unwrap_or_else(|wrong| panic!("{name}: {wrong}"))
 }
 
+/// The stored swatches of this many entries are on both sides of what fits labels of one byte, and at the limit.
+pub const ENTRIES: [usize; 6] = [254, 255, 256, 257, 999, 1_000];
+
+/// The text of the stored swatch that has this many entries, and its card.
+pub fn of_entries(entries: usize) -> [String; 2] {
+    ["txt", "card"].map(|ending| file(&format!("tests/swatches/{entries}-entries.{ending}")))
+}
+
 /// The names of the swatches in `examples/`.
 pub fn examples() -> Vec<String> {
     let files = fs::read_dir(top().join("examples")).expect("examples");
@@ -31,10 +39,10 @@ pub fn pixels(swatch: &str) -> Vec<u8> {
     fields.map(|field| field.parse().expect("a byte")).collect()
 }
 
-/// This many pixels of a cube of 8 × 8 × 8 colours, one after the other. With 32 or more of each, its card would have
-/// more than 255 entries.
+/// This many pixels of a cube of 12 × 12 × 12 colours, one after the other. With 9 or more of each, its card would have
+/// more than 1,000 entries.
 pub fn cube(pixels: usize) -> Vec<u8> {
-    let level = |place: usize| 36 * (place % 8) as u8;
-    let colour = |place| [level(place), level(place / 8), level(place / 64)];
+    let level = |place: usize| 23 * (place % 12) as u8;
+    let colour = |place| [level(place), level(place / 12), level(place / 144)];
     (0..pixels).flat_map(colour).collect()
 }
