@@ -18,6 +18,7 @@ pub fn struct_name(name: &str) -> String {
 fn item(item: &Item) -> String {
     match item {
         Item::U8 => "uint8_t".to_string(),
+        Item::U16 => "uint16_t".to_string(),
         Item::Bool => "bool".to_string(),
         Item::U32 => "uint32_t".to_string(),
         Item::I32 => "int32_t".to_string(),

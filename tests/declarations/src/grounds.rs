@@ -15,7 +15,7 @@ pub struct Grounds {
 }
 
 /// The definition of each call's number. Those of a call that no ground concerns have none.
-const NUMBERS: [(&str, Option<&str>); 11] = [
+const NUMBERS: [(&str, Option<&str>); 12] = [
     ("kistrovu_version", None),
     ("kistrovu_measures", None),
     ("kistrovu_fit", Some("fitNumber")),
@@ -25,6 +25,7 @@ const NUMBERS: [(&str, Option<&str>); 11] = [
     ("kistrovu_join_log", Some("logNumber")),
     ("kistrovu_replay", Some("replayNumber")),
     ("kistrovu_card", Some("cardNumber")),
+    ("kistrovu_widen_labels", Some("widenNumber")),
     ("kistrovu_print_card", Some("textNumber")),
     ("kistrovu_print_ground", None),
 ];
@@ -50,7 +51,7 @@ impl Grounds {
         })
     }
 
-    /// Every call's declaration comes after a comment that says `Grounds 6, 7`, or that no ground concerns it.
+    /// Every call's declaration comes after a comment that says `Grounds 6, 7` or `Ground 9`, or that no ground concerns it.
     pub fn are_said(&self, source: &Source, text: &str) -> Result<(), String> {
         for call in &source.calls {
             let name = &call.name;
@@ -99,12 +100,13 @@ fn sequence(text: &str, name: &str, names: &BTreeMap<String, u64>) -> Result<Vec
 /// call too, before it is declared.
 fn said(text: &str, call: &str) -> Option<Vec<u64>> {
     let (before, _) = text.rsplit_once(&format!(" {call}("))?;
-    let listed = before.rfind("Grounds ");
-    let none = before.rfind("o ground concerns it");
+    let behind = |word: &str| Some(before.rfind(word)? + word.len());
+    let listed = behind("Grounds ").max(behind("Ground "));
+    let none = behind("o ground concerns it");
     let Some(start) = listed.filter(|_| none < listed) else {
         return Some(Vec::new());
     };
-    let words = tokens(&before[start + "Grounds ".len()..]);
+    let words = tokens(&before[start..]);
     let numbers = words.iter().filter(|word| *word != ",");
     Some(numbers.map_while(|word| word.parse().ok()).collect())
 }

@@ -13,6 +13,7 @@ impl Source {
     fn item_layout(&self, item: &Item) -> Layout {
         let (size, align) = match item {
             Item::U8 | Item::Bool => (1, 1),
+            Item::U16 => (2, 2),
             Item::U32 | Item::I32 => (4, 4),
             Item::I64 => (8, 8),
             Item::Struct(name) => {

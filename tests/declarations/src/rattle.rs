@@ -7,6 +7,7 @@ use std::collections::BTreeMap;
 #[derive(Clone, Debug, PartialEq, Eq)]
 pub enum Item {
     U8,
+    U16,
     Bool,
     U32,
     I32,
@@ -167,6 +168,7 @@ impl Source {
         let name = cursor.word()?;
         match name.as_str() {
             "u8" => Ok(Item::U8),
+            "u16" => Ok(Item::U16),
             "bool" => Ok(Item::Bool),
             "u32" => Ok(Item::U32),
             "i32" => Ok(Item::I32),

@@ -16,6 +16,7 @@ fn held(item: &Item) -> String {
 fn handed(item: &Item) -> String {
     match item {
         Item::U8 => "u8".to_string(),
+        Item::U16 => "u16".to_string(),
         Item::Bool => "bool".to_string(),
         Item::U32 => "u32".to_string(),
         Item::I32 => "i32".to_string(),

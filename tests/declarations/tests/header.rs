@@ -59,8 +59,8 @@ fn wrong_structs_are_refused() {
             "\"alpha\"",
         ),
         (
+            "{ /* 12,008 bytes */",
             "{ /* 3,068 bytes */",
-            "{ /* 3,060 bytes */",
             "sizes in comments",
         ),
         (
@@ -135,11 +135,6 @@ fn wrong_calls_are_refused() {
             "is_kistrovu_print_ground",
         ),
         (
-            "uint8_t *labels",
-            "const uint8_t *labels",
-            "is_kistrovu_card",
-        ),
-        (
             "bool rising, int32_t closeness",
             "bool rising, uint32_t closeness",
             "is_kistrovu_verdict",
@@ -171,6 +166,49 @@ fn wrong_calls_are_refused() {
         ),
     ];
     HEADER.refused("calls", &edits);
+}
+
+/// Labels of one byte are those of the versions before.
+#[test]
+fn wrong_calls_of_labels_are_refused() {
+    let edits = [
+        (
+            "int32_t closeness, uint16_t *labels",
+            "int32_t closeness, uint8_t *labels",
+            "is_kistrovu_card",
+        ),
+        (
+            "int32_t closeness, uint16_t *labels",
+            "int32_t closeness, const uint16_t *labels",
+            "is_kistrovu_card",
+        ),
+        (
+            "size_t count, uint16_t *labels",
+            "size_t count, uint8_t *labels",
+            "is_kistrovu_widen_labels",
+        ),
+        (
+            "(const uint8_t *narrow",
+            "(uint8_t *narrow",
+            "is_kistrovu_widen_labels",
+        ),
+        (
+            "uint32_t kistrovu_widen_labels(",
+            "struct kistrovu_modes_answer kistrovu_widen_labels(",
+            "is_kistrovu_widen_labels",
+        ),
+        (
+            "uint32_t kistrovu_widen_labels(",
+            "void kistrovu_widen_labels(",
+            "is_kistrovu_widen_labels",
+        ),
+        (
+            "uint32_t kistrovu_widen_labels(",
+            "uint32_t kistrovu_widen(",
+            "kistrovu_widen_labels",
+        ),
+    ];
+    HEADER.refused("label-calls", &edits);
 }
 
 #[test]
@@ -262,6 +300,16 @@ fn wrong_grounds_are_refused() {
             "the words of KISTROVU_CLOSENESS",
         ),
         (
+            "each pixel, or for each one-byte label that is read into it */",
+            "each pixel */",
+            "the words of KISTROVU_LABELS",
+        ),
+        (
+            "more than 1,000 entries */",
+            "more than 255 entries */",
+            "the words of KISTROVU_ENTRIES",
+        ),
+        (
             "the list to write a log in, has fewer places",
             "the log, has fewer places",
             "the words of KISTROVU_SEPARATORS",
@@ -275,6 +323,16 @@ fn wrong_grounds_are_refused() {
             "Grounds 4, 5, 8, 9, 11\n",
             "Grounds 4, 5, 8, 11\n",
             "the grounds of kistrovu_card are said to be [4, 5, 8, 11]",
+        ),
+        (
+            "widened. Ground 9\n",
+            "widened. Grounds 9, 11\n",
+            "the grounds of kistrovu_widen_labels are said to be [9, 11]",
+        ),
+        (
+            "widened. Ground 9\n",
+            "widened. No ground concerns it\n",
+            "the grounds of kistrovu_widen_labels are said to be []",
         ),
         (
             "the log of a line's joins. Grounds 6, 7, 8, 10\n",
@@ -299,9 +357,14 @@ fn wrong_grounds_are_refused() {
 fn wrong_macros_are_refused() {
     let edits = [
         (
+            "#define KISTROVU_MOST_ENTRIES 1000",
             "#define KISTROVU_MOST_ENTRIES 255",
-            "#define KISTROVU_MOST_ENTRIES 254",
             "KISTROVU_MOST_ENTRIES",
+        ),
+        (
+            "#define KISTROVU_MOST_PRINTED 49019",
+            "#define KISTROVU_MOST_PRINTED 12514",
+            "KISTROVU_MOST_PRINTED",
         ),
         (
             "#define KISTROVU_RECORD_NUMBERS 4\n",

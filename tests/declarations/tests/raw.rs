@@ -123,7 +123,6 @@ fn wrong_calls_are_refused() {
             "kistrovu_print_ground(number: u64)",
             "raw::kistrovu_print_ground",
         ),
-        ("labels: *mut u8", "labels: *const u8", "raw::kistrovu_card"),
         (
             "kistrovu_fit(histogram: *const u32, bins: usize, rising: bool)",
             "kistrovu_fit(histogram: *const u32, rising: bool, bins: usize)",
@@ -175,12 +174,55 @@ fn wrong_calls_are_refused() {
     RAW.refused("raw-calls", &edits);
 }
 
+/// Labels of one byte are those of the versions before.
+#[test]
+fn wrong_calls_of_labels_are_refused() {
+    let edits = [
+        (
+            "closeness: i32,\n        labels: *mut u16",
+            "closeness: i32,\n        labels: *mut u8",
+            "raw::kistrovu_card",
+        ),
+        (
+            "closeness: i32,\n        labels: *mut u16",
+            "closeness: i32,\n        labels: *const u16",
+            "raw::kistrovu_card",
+        ),
+        (
+            "count: usize,\n        labels: *mut u16",
+            "count: usize,\n        labels: *mut u8",
+            "raw::kistrovu_widen_labels",
+        ),
+        (
+            "narrow: *const u8",
+            "narrow: *mut u8",
+            "raw::kistrovu_widen_labels",
+        ),
+        (
+            "places: usize,\n    ) -> u32;",
+            "places: usize,\n    ) -> ModesAnswer;",
+            "raw::kistrovu_widen_labels",
+        ),
+        (
+            "pub fn kistrovu_widen_labels(",
+            "pub fn kistrovu_widen(",
+            "kistrovu_widen_labels",
+        ),
+        (
+            "Ground 9.",
+            "Grounds 9, 11.",
+            "the grounds of kistrovu_widen_labels",
+        ),
+    ];
+    RAW.refused("raw-label-calls", &edits);
+}
+
 #[test]
 fn wrong_constants_are_refused() {
     let edits = [
         (
+            "MOST_ENTRIES: usize = 1_000",
             "MOST_ENTRIES: usize = 255",
-            "MOST_ENTRIES: usize = 254",
             "raw::MOST_ENTRIES",
         ),
         (

@@ -46,12 +46,12 @@ fn same(a: &Path, b: &Path) -> bool {
 const SMALL: &str = "
 const MOST: usize = 2 + 3 * 4;
 #[repr(C)]
-pub struct Inner { pub small: u8, pub large: i64, pub last: bool, }
+pub struct Inner { pub small: u8, pub middle: u16, pub large: i64, pub last: bool, }
 // #[repr(C)] pub struct Comment
 #[repr(C)]
 pub struct Answer { pub number: u32, pub inner: [Inner; MOST], pub tail: [u8; 3], }
 #[no_mangle]
-pub extern \"C\" fn call(list: &[u32], places: &mut [u8], flag: bool) -> Answer ensures { λ r. ⌜ r ⌝ } { 0 }
+pub extern \"C\" fn call(list: &[u32], places: &mut [u16], flag: bool) -> Answer ensures { λ r. ⌜ r ⌝ } { 0 }
 ";
 
 #[test]
@@ -60,7 +60,7 @@ fn layouts_follow_the_rule_of_c() {
     let [inner, answer] = source.structs.as_slice() else {
         panic!("{:?}", source.structs)
     };
-    assert_eq!(source.places(inner), [0, 8, 16, 17]);
+    assert_eq!(source.places(inner), [0, 2, 8, 16, 17]);
     assert_eq!(source.layout(inner).size, 24);
     assert_eq!(source.places(answer), [0, 8, 8 + 14 * 24, 8 + 14 * 24 + 3]);
     assert_eq!(source.layout(answer).size, 8 + 14 * 24 + 8);
@@ -110,9 +110,21 @@ fn a_changed_source_is_seen() {
     let edits = [
         (
             "crates/palette/src/lib.rt",
+            "MOST_ENTRIES: usize = 1000",
             "MOST_ENTRIES: usize = 255",
-            "MOST_ENTRIES: usize = 250",
             "KISTROVU_MOST_PRINTED",
+        ),
+        (
+            "crates/kistrovu/src/lib.rt",
+            "closeness: i32, labels: &mut [u16]",
+            "closeness: i32, labels: &mut [u8]",
+            "is_kistrovu_card",
+        ),
+        (
+            "crates/kistrovu/src/lib.rt",
+            "labels: &mut [u16]) -> u32",
+            "labels: &mut [u16]) -> u8",
+            "is_kistrovu_widen_labels",
         ),
         (
             "crates/pixel/src/lib.rt",
@@ -218,6 +230,11 @@ fn a_changed_sequence_of_grounds_is_seen() {
             "kistrovu_line_modes",
         ),
         (" ∷ otherLog e h log ∷ [])", " ∷ [])", "kistrovu_replay"),
+        (
+            "(badLabels (length narrow) places ∷ [])",
+            "([])",
+            "kistrovu_widen_labels",
+        ),
     ];
     for text in [&texts.header, &comments] {
         let said = |grounds: &str| Grounds::read(grounds)?.are_said(&source, text);
