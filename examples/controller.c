@@ -26,7 +26,7 @@ enum { LINE = 13, HEADER_FIELD = 6, PIXEL_FIELD = 4 };
 /* The buffers have a fixed size and are not on the stack, of which a call takes up to 365 KB. */
 static uint8_t text[TEXT_BYTES];
 static uint8_t pixels[3 * KISTROVU_MOST_SWATCH_PIXELS];
-static uint8_t labels[KISTROVU_MOST_SWATCH_PIXELS];
+static uint16_t labels[KISTROVU_MOST_SWATCH_PIXELS];
 
 /* What to tell an operator. A text can be turned down with 1, 2, 3 or 11; the others are mistakes in the program itself. */
 static const char *const sentences[] = {
@@ -39,9 +39,9 @@ static const char *const sentences[] = {
     [KISTROVU_BINS] = "the histogram has fewer than 2 bins or more than 256",
     [KISTROVU_SUM] = "the counts of the histogram add up to more than 65,536",
     [KISTROVU_CLOSENESS] = "the closeness is below -10 or above 20",
-    [KISTROVU_LABELS] = "the label buffer does not have one place for each pixel",
+    [KISTROVU_LABELS] = "the label buffer does not have one place for each pixel, or for each one-byte label that is read into it",
     [KISTROVU_SEPARATORS] = "the separator list, or the list to write a log in, has fewer places than the histogram has bins",
-    [KISTROVU_ENTRIES] = "the card would have more than 255 entries",
+    [KISTROVU_ENTRIES] = "the card would have more than 1,000 entries",
     [KISTROVU_LOG] = "the log is not the one that the method writes for the line",
 };
 
@@ -96,7 +96,7 @@ static int label_rows(const struct kistrovu_printed *printed)
     size_t count = width * field(text + HEADER_FIELD, HEADER_FIELD);
     read_pixels(count);
 
-    /* Closeness 0 is that of the printed card, so both have the same entries. */
+    /* Closeness 0 is that of the printed card, so both have the same entries. The last length counts labels, not bytes. */
     struct kistrovu_card card = kistrovu_card(pixels, 3 * count, 0, labels, count);
     if (card.number != KISTROVU_SERVED)
         return complain((int)card.number, "turned down", sentences[card.number]);
@@ -114,7 +114,8 @@ int main(int argc, char **argv)
     if (next + 1 < argc || (name != NULL && name[0] == '-'))
         return complain(WRONG_USE, "usage", "controller [-l] [FILE]");
 
-    /* The header that was compiled and the library that was linked must be of one version. */
+    /* The header that was compiled and the library that was linked must be of one version: another major version may have
+     * other declarations, and write more into a buffer than it holds. */
     if (kistrovu_version() != KISTROVU_VERSION)
         return complain(WRONG_LIBRARY, "kistrovu", "the library is not of the header's version");
 

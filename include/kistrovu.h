@@ -5,8 +5,8 @@
  * pixel belongs where. For example, black beside red, whose card has two entries of one pixel each:
  *
  *     const uint8_t pixels[] = {0, 0, 0, 255, 0, 0};
- *     uint8_t labels[2];
- *     struct kistrovu_card card = kistrovu_card(pixels, sizeof pixels, 0, labels, sizeof labels);
+ *     uint16_t labels[2];
+ *     struct kistrovu_card card = kistrovu_card(pixels, sizeof pixels, 0, labels, sizeof labels / sizeof *labels);
  *     if (card.number != KISTROVU_SERVED)
  *         return (int)card.number;
  *     for (uint32_t i = 0; i < card.len; i++) {
@@ -29,7 +29,13 @@
  *   - a pointer and a length stand for that many readable places, writable too if the pointer is not const;
  *     a pointer is aligned for its type and not null, even if the length is 0;
  *   - a buffer that is written does not overlap another argument;
- *   - a bool is 0 or 1.
+ *   - a bool is 0 or 1;
+ *   - the library is of the header's major version. Up to version 5 a label was one byte. A program compiled with such a
+ *     header and linked with this library would lend a byte for each label to a call that writes two bytes for each, and no
+ *     number could tell. Only the version does, so look at it at the start of the program:
+ *
+ *     if (kistrovu_version() / 10000 != KISTROVU_VERSION_MAJOR)
+ *         return 1;
  *
  * No call uses the heap, keeps state or touches anything but its arguments, so calls may run on many threads at once.
  * Stack, as measured: kistrovu_card takes up to 365 KB, kistrovu_print_card up to 181 KB; every other call takes less
@@ -222,9 +228,13 @@ struct kistrovu_modes_answer kistrovu_replay(const uint32_t *histogram, size_t b
                                              size_t numbers, uint32_t *separators, size_t places);
 
 /* ---- the card of an image. Grounds 4, 5, 8, 9, 11
- * An image has three bytes for each pixel: R, G, B. A pixel's label is one byte, the number of its entry, counted from 0;
- * there are as many labels as pixels. The first len places of entries hold the card: greys by mode, then colours by hue,
- * saturation and intensity mode. The rest are zero. */
+ * An image has three bytes for each pixel: R, G, B. A pixel's label is a number of 16 bits, that of its entry, counted from
+ * 0; there are as many labels as pixels. The first len places of entries hold the card: greys by mode, then colours by hue,
+ * saturation and intensity mode. The rest are zero.
+ *
+ * places counts labels, not bytes. Up to version 5, when a label was one byte, `sizeof labels` was their number; now it is
+ * twice their number, so a caller who still passes it gets 9, and nothing is written. Labels are numbers in memory, and there
+ * is no format for files of them: whoever stores them chooses the order of a label's two bytes. */
 
 struct kistrovu_entry {
     uint8_t kind; /* 0 grey, 1 colour */
@@ -245,8 +255,21 @@ struct kistrovu_card { /* 12,008 bytes */
 
 struct kistrovu_card kistrovu_card(const uint8_t *pixels, size_t bytes, int32_t closeness, uint16_t *labels, size_t places);
 
-/* ---- labels of one byte, as earlier releases wrote them, widened: each number unchanged. Ground 9
- * The answer is the number of the call. Every byte is a label, and two empty lists are served. */
+/* ---- labels of one byte, widened. Ground 9
+ * Up to version 5 a label was one byte, and lists of such labels may have been stored. This call reads such a list into
+ * labels of 16 bits: each number unchanged, in the same place. It hands back its number alone: 0, or 9 if the two lists are
+ * not of one length, and then the new list is left as it was. Nothing else is asked of them: any byte is a label, and the
+ * lists may have any length, 0 as well. count and places both count labels. For example
+ *
+ *     const uint8_t narrow[] = {0, 1, 1, 254};
+ *     uint16_t labels[4];
+ *     uint32_t number = kistrovu_widen_labels(narrow, 4, labels, 4);
+ *     if (number != KISTROVU_SERVED)
+ *         return (int)number;
+ *     for (int i = 0; i < 4; i++)
+ *         printf("%s%u", i == 0 ? "" : " ", (unsigned)labels[i]);
+ *
+ * prints `0 1 1 254`. */
 
 uint32_t kistrovu_widen_labels(const uint8_t *narrow, size_t count, uint16_t *labels, size_t places);
 

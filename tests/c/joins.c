@@ -1,63 +1,24 @@
 /*
- * Lends the calls of a log lists that end where nothing may be touched, and the replay a log that may only be read: a call
- * that goes further is stopped by the system. Says which checks fail, a line for each, and then has exit status 1.
+ * Lends the calls of a log lists that end where nothing may be touched, and the replay a log that may only be read. Says which
+ * checks fail, and then has exit status 1.
  */
 #define _DEFAULT_SOURCE
-#include <kistrovu.h>
-#include <stdio.h>
-#include <string.h>
-#include <sys/mman.h>
-#include <unistd.h>
+#include "guarded.h"
 
-/* Whole pages, however large they are. */
-#define ROOM (64 * 1024)
 #define MOST_NUMBERS (KISTROVU_RECORD_NUMBERS * KISTROVU_MOST_BINS)
-#define UNUSED 0x5A
 
-static int failures;
-static const char *line_name;
-
-/* Each list has pages of its own, and this is where the page behind it begins. */
 static uint8_t *log_end, *separators_end;
-
-static void check(bool right, const char *what)
-{
-    if (!right) {
-        printf("%s: %s\n", line_name, what);
-        failures++;
-    }
-}
-
-static uint8_t *guarded_end(void)
-{
-    size_t page = (size_t)sysconf(_SC_PAGESIZE);
-    size_t room = (ROOM + page - 1) / page * page;
-    uint8_t *start = mmap(NULL, room + page, PROT_READ | PROT_WRITE, MAP_PRIVATE | MAP_ANONYMOUS, -1, 0);
-    if (start == MAP_FAILED || mprotect(start + room, page, PROT_NONE) != 0)
-        return NULL;
-    return start + room;
-}
-
-/* Whether so many bytes before an end are as they were lent. */
-static bool untouched(const uint8_t *end, size_t bytes)
-{
-    for (size_t i = 1; i <= bytes; i++)
-        if (*(end - i) != UNUSED)
-            return false;
-    return true;
-}
 
 /* A log of so many numbers, unused, that ends where its pages do. */
 static int64_t *fresh_log(size_t numbers)
 {
-    mprotect(log_end - ROOM, ROOM, PROT_READ | PROT_WRITE);
-    memset(log_end - ROOM, UNUSED, ROOM);
+    refresh(log_end);
     return (int64_t *)(void *)log_end - numbers;
 }
 
 static uint32_t *fresh_separators(size_t places)
 {
-    memset(separators_end - ROOM, UNUSED, ROOM);
+    refresh(separators_end);
     return (uint32_t *)(void *)separators_end - places;
 }
 
@@ -69,14 +30,14 @@ static uint32_t write_logs(const uint32_t *histogram, size_t bins, int32_t close
     for (size_t i = 0; i < sizeof few / sizeof *few; i++) {
         struct kistrovu_log_answer answer = kistrovu_join_log(histogram, bins, closeness, fresh_log(few[i]), few[i]);
         check(answer.number == KISTROVU_SEPARATORS && answer.joins == 0, "a log with too few numbers gets 10");
-        check(untouched(log_end, ROOM), "a log with too few numbers is left as it was");
+        check(untouched(log_end - ROOM, ROOM), "a log with too few numbers is left as it was");
     }
     for (size_t more = 0; more <= KISTROVU_RECORD_NUMBERS; more++) {
         int64_t *log = fresh_log(most + more);
         struct kistrovu_log_answer answer = kistrovu_join_log(histogram, bins, closeness, log, most + more);
         check(answer.number == KISTROVU_SERVED && answer.joins < bins, "a log with numbers enough is served");
         joins = answer.joins;
-        check(untouched(log_end, (most + more - KISTROVU_RECORD_NUMBERS * joins) * sizeof *log),
+        check(untouched(log + KISTROVU_RECORD_NUMBERS * joins, (most + more - KISTROVU_RECORD_NUMBERS * joins) * sizeof *log),
               "the numbers behind the last join are left as they were");
         memcpy(numbers, log, KISTROVU_RECORD_NUMBERS * joins * sizeof *log);
     }
@@ -91,17 +52,18 @@ static uint32_t replayed(const uint32_t *histogram, size_t bins, int32_t closene
     int64_t *log = fresh_log(count);
     struct kistrovu_modes_answer answer, modes;
     memcpy(log, numbers, count * sizeof *log);
-    mprotect(log_end - ROOM, ROOM, PROT_READ);
+    forbid_writing(log_end);
     answer = kistrovu_replay(histogram, bins, closeness, log, count, separators, bins);
     check(memcmp(log, numbers, count * sizeof *log) == 0, "a log that is replayed is left as it was");
     if (answer.number != KISTROVU_SERVED) {
-        check(answer.separators == 0 && untouched(separators_end, ROOM), "a list is left as it was by a call turned down");
+        check(answer.separators == 0 && untouched(separators_end - ROOM, ROOM), "a list is left as it was by a call turned down");
         return answer.number;
     }
     modes = kistrovu_line_modes(histogram, bins, closeness, expected, KISTROVU_MOST_BINS);
     check(answer.separators == modes.separators, "a replay has as many separators as the modes");
     check(memcmp(separators, expected, modes.separators * sizeof *separators) == 0, "a replay has the separators of the modes");
-    check(untouched(separators_end, (bins - modes.separators) * sizeof *separators), "a replay leaves the other places");
+    check(untouched(separators + modes.separators, (bins - modes.separators) * sizeof *separators),
+          "a replay leaves the other places");
     return answer.number;
 }
 
@@ -130,7 +92,7 @@ static void try_line(const char *name, const uint32_t *histogram, size_t bins, i
 {
     int64_t numbers[MOST_NUMBERS + KISTROVU_RECORD_NUMBERS] = {0};
     uint32_t found;
-    line_name = name;
+    tried = name;
     found = write_logs(histogram, bins, closeness, numbers);
     check(joins < 0 ? found > 0 : found == (uint32_t)joins, "the number of joins");
     replay_logs(histogram, bins, closeness, numbers, found);
@@ -142,10 +104,6 @@ int main(void)
     uint32_t most[64];
     log_end = guarded_end();
     separators_end = guarded_end();
-    if (log_end == NULL || separators_end == NULL) {
-        perror("no pages");
-        return 2;
-    }
     for (size_t i = 0; i < sizeof most / sizeof *most; i++)
         most[i] = i % 2 == 0 ? 0 : 1 + (uint32_t)i % 7;
     try_line("two humps", humps, 5, 0, 1);

@@ -19,7 +19,8 @@ static _Alignas(4096) uint8_t stack[ROOM];
 static uint8_t text[KISTROVU_MOST_TEXT + 1];
 static size_t text_length;
 static uint8_t pixels[3 * KISTROVU_MOST_PIXELS];
-static uint8_t labels[KISTROVU_MOST_PIXELS];
+static uint8_t narrow[KISTROVU_MOST_PIXELS];
+static uint16_t labels[KISTROVU_MOST_PIXELS];
 static uint32_t bins[KISTROVU_MOST_BINS];
 static uint32_t separators[KISTROVU_MOST_BINS];
 static struct kistrovu_join_record joins[KISTROVU_MOST_BINS];
@@ -29,8 +30,13 @@ static volatile uint32_t sink;
 static void *nothing(void *argument) { return argument; }
 
 static void *make_card(void *argument) {
-    struct kistrovu_card card = kistrovu_card(pixels, sizeof pixels, 0, labels, sizeof labels);
+    struct kistrovu_card card = kistrovu_card(pixels, sizeof pixels, 0, labels, KISTROVU_MOST_PIXELS);
     sink = card.number;
+    return argument;
+}
+
+static void *widen_labels(void *argument) {
+    sink = kistrovu_widen_labels(narrow, KISTROVU_MOST_PIXELS, labels, KISTROVU_MOST_PIXELS);
     return argument;
 }
 
@@ -130,6 +136,7 @@ int main(int count, char **arguments) {
     printf("card %zu\n", taken(make_card, sizeof(struct kistrovu_card)));
     printf("text %zu\n", taken(print_card, sizeof(struct kistrovu_printed)));
     other = taken(find_modes, 0);
+    other = larger(other, taken(widen_labels, 0));
     other = larger(other, taken(write_log, 0));
     other = larger(other, taken(follow_log, 0));
     other = larger(other, taken(make_fit, sizeof(struct kistrovu_fit_answer)));
