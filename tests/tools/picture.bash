@@ -47,15 +47,23 @@ cells_in() {
         while read -r x width fill r g b; do printf '%d %d %s #%02x%02x%02x\n' "$x" "$width" "$fill" "$r" "$g" "$b"; done
 }
 
+# The picture of a card of so many entries is 720 wide, and 1 wider for each beyond 255.
+# as_wide PICTURE WIDTH
+as_wide() {
+    head -n 1 "$1" | grep -qE " width=\"$2\" height=\"([0-9]+)\" viewBox=\"0 0 $2 \\1\""
+}
+
 # Cells stand side by side to the right edge, and only the hairline's gap between greys and colours is left out.
 # side_by_side PICTURE GREYS ENTRIES
 side_by_side() {
-    cells_in "$1" | awk -v greys="$2" -v entries="$3" '
+    local wide=$((720 + ($3 > 255 ? $3 - 255 : 0)))
+    as_wide "$1" "$wide" || return
+    cells_in "$1" | awk -v greys="$2" -v entries="$3" -v wide="$wide" '
         NR == 1 { at = $1; if (at != 0 && at != 264) exit bad = 1 }
         NR == greys + 1 && greys > 0 { at += 9 }
         $1 != at || $2 < 1 || $3 != $4 { exit bad = 1 }
         { at += $2 }
-        END { exit bad || NR != entries || at != 720 }
+        END { exit bad || NR != entries || at != wide }
     '
 }
 
@@ -148,14 +156,20 @@ damaged_cards() {
 # A card of this many entries, of one pixel each.
 entries() {
     awk -v n="$1" 'BEGIN { printf "%6d%6d%6d\n", n, n, 0
-        for (i = 0; i < n; i++) printf "%6d%6d%6d%6d%6d%6d%6d%6d\n", 1, int(i / 16), i % 16, 0, i % 256, 9, 7, 1 }'
+        for (i = 0; i < n; i++) printf "%6d%6d%6d%6d%6d%6d%6d%6d\n", 1, int(i / 20), i % 20, 0, i % 256, 9, 7, 1 }'
 }
 
 most_entries() {
-    entries 255 >"$work/255.card"
-    check "255 entries" shows "$work/255.card"
-    try tools/picture < <(entries 256)
-    check "256 entries" ends 2 'this is no card'
+    local n
+    for n in 255 256 999 1000; do
+        entries "$n" >"$work/$n.card"
+        check "$n entries" shows "$work/$n.card"
+    done
+    try tools/picture < <(entries 1001)
+    check "1001 entries" ends 2 'not one of 1 to 1000 entries'
+    for n in 255 256 1000; do
+        check "$n entries beside their cloth" shows "tests/swatches/$n-entries.card" "tests/swatches/$n-entries.txt"
+    done
 }
 
 # A card that is cut anywhere is no card.
