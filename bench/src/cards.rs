@@ -87,7 +87,7 @@ pub fn wrong(cloth: &Cloth) -> Option<String> {
     None
 }
 
-fn fast_card(bytes: &[u8], closeness: i32) -> (CardAnswer, Vec<u8>) {
+fn fast_card(bytes: &[u8], closeness: i32) -> (CardAnswer, Vec<u16>) {
     let mut labels = vec![0; bytes.len() / 3];
     let answer = fast_cards::card(bytes, closeness, &mut labels, &mut Scratch::default());
     (answer, labels)

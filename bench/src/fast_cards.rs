@@ -81,7 +81,7 @@ pub struct Scratch {
 /// The answer to a call that can be turned down only for its number of entries. Never put into its caller, so that its
 /// instructions can be counted.
 #[inline(never)]
-pub fn card(bytes: &[u8], closeness: i32, labels: &mut [u8], scratch: &mut Scratch) -> CardAnswer {
+pub fn card(bytes: &[u8], closeness: i32, labels: &mut [u16], scratch: &mut Scratch) -> CardAnswer {
     let pixels = bytes.len() / 3;
     let Scratch {
         bins,
@@ -171,7 +171,7 @@ pub fn card(bytes: &[u8], closeness: i32, labels: &mut [u8], scratch: &mut Scrat
     let kept = nodes.iter().zip(bins.iter());
     for ((label, rgb), (node, bins)) in labels.iter_mut().zip(bytes.chunks_exact(3)).zip(kept) {
         let entry = by_intensity[usize::from(*node)][usize::from(bins.intensity)];
-        *label = entry as u8;
+        *label = entry;
         let total = &mut totals[usize::from(entry)];
         total.red += u32::from(rgb[0]);
         total.green += u32::from(rgb[1]);
@@ -264,6 +264,25 @@ fn number(starts: &[u32], first: usize, table: &mut [u16]) {
 #[cfg(test)]
 mod tests {
     use super::*;
+    use cloths::full_cards;
+    use reference::calls;
+
+    /// On both sides of what labels of one byte can tell apart, and of the limit.
+    #[test]
+    fn cards_of_many_entries_are_those_of_the_reference() {
+        for entries in [255, 256, 257, MOST_ENTRIES, MOST_ENTRIES + 1] {
+            let bytes = full_cards::pixels(entries, 10).concat();
+            let mut expected_labels = vec![u16::MAX; bytes.len() / 3];
+            let mut labels = expected_labels.clone();
+            let expected = calls::card(&bytes, 0, &mut expected_labels);
+            let made = card(&bytes, 0, &mut labels, &mut Scratch::default());
+            assert_eq!(made, expected);
+            assert_eq!(labels, expected_labels);
+            let fits = entries <= MOST_ENTRIES;
+            assert_eq!(made.number, if fits { 0 } else { 11 });
+            assert_eq!(made.len as usize, if fits { entries } else { 0 });
+        }
+    }
 
     /// One hump goes past the opening, which is then no separator; the other one starts first. Turned on by a bin, so that
     /// the opening is not bin 0 either.
