@@ -267,7 +267,7 @@ struct kistrovu_card kistrovu_card(const uint8_t *pixels, size_t bytes, int32_t 
  *     if (number != KISTROVU_SERVED)
  *         return (int)number;
  *     for (int i = 0; i < 4; i++)
- *         printf("%s%u", i == 0 ? "" : " ", (unsigned)labels[i]);
+ *         printf("%u%c", (unsigned)labels[i], i < 3 ? ' ' : '\n');
  *
  * prints `0 1 1 254`. */
 

@@ -9,7 +9,7 @@
 
 /* The most labels that the pages have room for: more than an image can have. */
 #define MOST_LABELS (ROOM / sizeof(uint16_t))
-/* The most entries of a card whose labels fit one byte each. */
+/* The most entries that a card had when its labels were one byte each. */
 #define MOST_NARROW 255
 
 static uint8_t *pixels_end, *narrow_end, *labels_end;

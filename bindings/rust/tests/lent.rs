@@ -257,7 +257,7 @@ fn a_widening_that_is_turned_down_leaves_the_labels() {
     }
 }
 
-/// Up to 255 entries, labels fit one byte each: stored so and widened, they are the card's.
+/// Labels of up to 256 entries fit one byte each: stored so and widened, they are the card's.
 #[test]
 fn labels_of_few_entries_are_those_of_before() {
     let mut tried = 0;
