@@ -25,60 +25,70 @@ static uint32_t bins[KISTROVU_MOST_BINS];
 static uint32_t separators[KISTROVU_MOST_BINS];
 static struct kistrovu_join_record joins[KISTROVU_MOST_BINS];
 static size_t numbers;
-static volatile uint32_t sink;
+
+/* A call that is turned down may not come to its deepest place. */
+static void expect_served(uint32_t number) {
+    if (number != KISTROVU_SERVED) {
+        fprintf(stderr, "a call is turned down, number %u\n", (unsigned)number);
+        exit(2);
+    }
+}
 
 static void *nothing(void *argument) { return argument; }
 
 static void *make_card(void *argument) {
     struct kistrovu_card card = kistrovu_card(pixels, sizeof pixels, 0, labels, KISTROVU_MOST_PIXELS);
-    sink = card.number;
+    expect_served(card.number);
     return argument;
 }
 
 static void *widen_labels(void *argument) {
-    sink = kistrovu_widen_labels(narrow, KISTROVU_MOST_PIXELS, labels, KISTROVU_MOST_PIXELS);
+    expect_served(kistrovu_widen_labels(narrow, KISTROVU_MOST_PIXELS, labels, KISTROVU_MOST_PIXELS));
     return argument;
 }
 
 static void *print_card(void *argument) {
     struct kistrovu_printed printed = kistrovu_print_card(text, text_length);
-    sink = printed.number;
+    expect_served(printed.number);
     return argument;
 }
 
 static void *find_modes(void *argument) {
-    sink = kistrovu_verdict(bins, KISTROVU_MOST_BINS, true, 0).number;
-    sink = kistrovu_line_modes(bins, KISTROVU_MOST_BINS, 0, separators, KISTROVU_MOST_BINS).number;
-    sink = kistrovu_ring_modes(bins, KISTROVU_MOST_BINS, 0, separators, KISTROVU_MOST_BINS).number;
+    expect_served(kistrovu_verdict(bins, KISTROVU_MOST_BINS, true, 0).number);
+    expect_served(kistrovu_line_modes(bins, KISTROVU_MOST_BINS, 0, separators, KISTROVU_MOST_BINS).number);
+    expect_served(kistrovu_ring_modes(bins, KISTROVU_MOST_BINS, 0, separators, KISTROVU_MOST_BINS).number);
     return argument;
 }
 
-/* The log, and then its replay to the end, for which it must be served. */
+/* The log, and then its replay, for which there must be joins. */
 static void *write_log(void *argument) {
     struct kistrovu_log_answer answer =
         kistrovu_join_log(bins, KISTROVU_MOST_BINS, 0, (int64_t *)joins, KISTROVU_RECORD_NUMBERS * KISTROVU_MOST_BINS);
+    expect_served(answer.number);
     numbers = KISTROVU_RECORD_NUMBERS * answer.joins;
-    return argument;
-}
-
-static void *follow_log(void *argument) {
-    sink = kistrovu_replay(bins, KISTROVU_MOST_BINS, 0, (const int64_t *)joins, numbers, separators, KISTROVU_MOST_BINS).number;
-    if (numbers == 0 || sink != KISTROVU_SERVED) {
-        fputs("no joins, or their log is not followed\n", stderr);
+    if (numbers == 0) {
+        fputs("there are no joins\n", stderr);
         exit(2);
     }
     return argument;
 }
 
+static void *follow_log(void *argument) {
+    struct kistrovu_modes_answer answer =
+        kistrovu_replay(bins, KISTROVU_MOST_BINS, 0, (const int64_t *)joins, numbers, separators, KISTROVU_MOST_BINS);
+    expect_served(answer.number);
+    return argument;
+}
+
 static void *make_fit(void *argument) {
     struct kistrovu_fit_answer fit = kistrovu_fit(bins, KISTROVU_MOST_BINS, true);
-    sink = fit.number;
+    expect_served(fit.number);
     return argument;
 }
 
 static void *print_ground(void *argument) {
     struct kistrovu_printed printed = kistrovu_print_ground(KISTROVU_ENTRIES);
-    sink = printed.number;
+    expect_served(printed.number);
     return argument;
 }
 

@@ -43,7 +43,7 @@
 //!
 //! # Stack, heap and threads
 //!
-//! The engine keeps everything on the stack: a card call takes up to 365 KB of it, [`print_card`] up to 181 KB, whatever the
+//! The engine keeps everything on the stack: a card call takes up to 407 KB of it, [`print_card`] up to 259 KB, whatever the
 //! image, every other call less than 20 KB. **A thread that makes cards needs 1 MB.** Threads of the standard library
 //! have 2 MB by default. The engine keeps no state, so calls may run on many threads at once.
 //!
