@@ -2,7 +2,7 @@
  * Lends the card call and the widening of labels lists that end where nothing may be touched; what they are to read may only
  * be read. Says which checks fail, and then has exit status 1.
  *
- *     labels FOLDER    the stored swatches, of which those named by their entries are read
+ *     lent_labels FOLDER    the stored swatches, of which those named by their entries are read
  */
 #define _DEFAULT_SOURCE
 #include "guarded.h"
@@ -156,7 +156,7 @@ int main(int count, char **arguments)
     const size_t entries[] = {254, 255, 256, 257, 999, 1000, 1001};
     const size_t lengths[] = {0, 1, 2, 3, 15, 16, 17, 255, 256, 257, KISTROVU_MOST_PIXELS, KISTROVU_MOST_PIXELS + 1, MOST_LABELS};
     if (count != 2) {
-        fputs("usage: labels FOLDER\n", stderr);
+        fputs("usage: lent_labels FOLDER\n", stderr);
         return 2;
     }
     pixels_end = guarded_end();
