@@ -32,7 +32,7 @@
  *   - a bool is 0 or 1;
  *   - the library is of the header's major version. Up to version 5 a label was one byte. A program compiled with such a
  *     header and linked with this library would lend a byte for each label to a call that writes two bytes for each, and no
- *     number could tell. Only the version does, so look at it at the start of the program:
+ *     number would show it. Only the version does, so compare it at the start of the program:
  *
  *     if (kistrovu_version() / 10000 != KISTROVU_VERSION_MAJOR)
  *         return 1;

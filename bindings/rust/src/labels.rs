@@ -15,7 +15,7 @@ use alloc::{vec, vec::Vec};
 /// assert_eq!(widen_labels(&[]), []);
 /// ```
 ///
-/// A cloth of up to 255 entries has the labels that it had before:
+/// A cloth that had a card in version 5, of up to 255 entries, has the labels that it had then:
 ///
 /// ```
 /// # use kistrovu::{card, widen_labels, Ground};
