@@ -1,6 +1,6 @@
 //! The public calls: the grounds that concern them, and their answers, served or turned down.
 
-use crate::cards::{self, Entry, Pixel};
+use crate::cards::{self, Card, Entry, Pixel};
 use crate::logs::{self, Logged};
 use crate::measures::{self, Measures};
 use crate::rings::{Finished, RingTraits};
@@ -14,11 +14,17 @@ pub const MOST_PIXELS: u128 = 65_536;
 pub const LEAST_CLOSENESS: i32 = -10;
 pub const MOST_CLOSENESS: i32 = 20;
 /// The most entries that a card may hold.
-pub const MOST_ENTRIES: usize = 255;
+pub const MOST_ENTRIES: usize = 1_000;
+/// The most entries of a card whose labels are to be one byte each, as they once all were.
+pub const MOST_NARROW_ENTRIES: usize = 255;
 /// The most bytes printed: a line of 3 fields of 6 columns, and a line of 8 for each entry.
 pub const MOST_PRINTED: usize = 19 + 49 * MOST_ENTRIES;
 /// The closeness at which the card program works.
 pub const PROGRAM_CLOSENESS: i32 = 0;
+/// The number of a call whose labels do not have the places that they must have.
+pub const OTHER_PLACES: u32 = 9;
+/// The number of a card that would have too many entries.
+pub const TOO_MANY_ENTRIES: u32 = 11;
 /// The number of a replay whose log is not the line's.
 pub const ANOTHER_LOG: u32 = 20;
 
@@ -86,7 +92,7 @@ pub fn fit(histogram: &[u32], rising: bool) -> FitAnswer {
         lengths: [0; MOST_BINS],
     };
     if number == 0 {
-        for (bin, block) in pooling::fit(&widened(histogram), rising).iter().enumerate() {
+        for (bin, block) in pooling::fit(&counts(histogram), rising).iter().enumerate() {
             answer.sums[bin] = block.sum as u32;
             answer.lengths[bin] = block.len as u32;
         }
@@ -97,7 +103,7 @@ pub fn fit(histogram: &[u32], rising: bool) -> FitAnswer {
 pub fn verdict(histogram: &[u32], rising: bool, closeness: i32) -> VerdictAnswer {
     let number = first_ground(histogram, Some(closeness), None);
     let verdict = if number == 0 {
-        test::verdict(&widened(histogram), rising, closeness)
+        test::verdict(&counts(histogram), rising, closeness)
     } else {
         Verdict {
             cost: 0,
@@ -153,7 +159,7 @@ fn modes(
     if number != 0 {
         return modes_turned_down(number);
     }
-    listed(&separators(&widened(histogram), closeness), list)
+    listed(&separators(&counts(histogram), closeness), list)
 }
 
 fn modes_turned_down(number: u32) -> ModesAnswer {
@@ -197,7 +203,7 @@ impl<'a> Joins<'a> {
         Joins {
             histogram,
             closeness,
-            line: served.then(|| logs::logged(&widened(histogram), closeness)),
+            line: served.then(|| logs::logged(&counts(histogram), closeness)),
         }
     }
 
@@ -232,39 +238,78 @@ impl<'a> Joins<'a> {
     }
 }
 
-pub fn card(bytes: &[u8], closeness: i32, labels: &mut [u8]) -> CardAnswer {
-    card_and_hue_traits(bytes, closeness, labels).0
+pub fn card(bytes: &[u8], closeness: i32, labels: &mut [u16]) -> CardAnswer {
+    Carded::of(bytes, closeness, labels.len()).answer(labels)
 }
 
-/// The same, with the traits of the ring of hues; without any, if the call is turned down before the hues are divided.
-pub fn card_and_hue_traits(
-    bytes: &[u8],
-    closeness: i32,
-    labels: &mut [u8],
-) -> (CardAnswer, RingTraits) {
-    let mut answer = CardAnswer {
-        number: first_card_ground(bytes, closeness, labels.len()),
-        len: 0,
-        entries: [Entry::default(); MOST_ENTRIES],
-    };
-    if answer.number != 0 {
-        return (answer, RingTraits::default());
+/// An image with its card, for whoever asks for it under more than one limit: finding the card takes long.
+pub struct Carded {
+    /// The first ground before 11, 0 where none holds.
+    number: u32,
+    /// None where a ground before 11 holds.
+    card: Option<Card>,
+}
+
+impl Carded {
+    pub fn of(bytes: &[u8], closeness: i32, places: usize) -> Carded {
+        let number = first_card_ground(bytes, closeness, places);
+        let pixels = bytes.chunks_exact(3).map(|rgb| [rgb[0], rgb[1], rgb[2]]);
+        let card = || cards::card(&pixels.collect::<Vec<Pixel>>(), closeness);
+        Carded {
+            number,
+            card: (number == 0).then(card),
+        }
     }
-    let pixels: Vec<Pixel> = bytes
-        .chunks(3)
-        .map(|rgb| [rgb[0], rgb[1], rgb[2]])
-        .collect();
-    let card = cards::card(&pixels, closeness);
-    if card.entries.len() > MOST_ENTRIES {
-        answer.number = 11;
-        return (answer, card.hue_traits);
+
+    pub fn answer(&self, labels: &mut [u16]) -> CardAnswer {
+        self.limited(MOST_ENTRIES, labels)
     }
-    answer.len = card.entries.len() as u32;
-    answer.entries[..card.entries.len()].copy_from_slice(&card.entries);
-    for (place, &label) in labels.iter_mut().zip(&card.labels) {
-        *place = label as u8;
+
+    /// The answer where a card may hold so few entries that one byte is enough for a label.
+    pub fn narrow_answer(&self, labels: &mut [u8]) -> CardAnswer {
+        self.limited(MOST_NARROW_ENTRIES, labels)
     }
-    (answer, card.hue_traits)
+
+    /// The traits of the ring of hues; none, if the call is turned down before the hues are divided.
+    pub fn hue_traits(&self) -> RingTraits {
+        let card = self.card.as_ref();
+        card.map_or(RingTraits::default(), |card| card.hue_traits)
+    }
+
+    /// The answer where a card may hold this many entries, with the labels in the list only if it is served.
+    fn limited<L: TryFrom<usize>>(&self, most: usize, labels: &mut [L]) -> CardAnswer {
+        let Some(card) = &self.card else {
+            return card_answer(self.number, &[]);
+        };
+        if card.entries.len() > most {
+            return card_answer(TOO_MANY_ENTRIES, &[]);
+        }
+        for (place, &label) in labels.iter_mut().zip(&card.labels) {
+            let fits = L::try_from(label).ok();
+            *place = fits.expect("a label holds every number below the limit");
+        }
+        card_answer(0, &card.entries)
+    }
+}
+
+fn card_answer(number: u32, card: &[Entry]) -> CardAnswer {
+    let mut entries = [Entry::default(); MOST_ENTRIES];
+    entries[..card.len()].copy_from_slice(card);
+    CardAnswer {
+        number,
+        len: card.len() as u32,
+        entries,
+    }
+}
+
+/// Labels of one byte each as labels of 16 bits, in the list that is lent. The answer is the number alone.
+pub fn widen_labels(narrow: &[u8], labels: &mut [u16]) -> u32 {
+    if narrow.len() != labels.len() {
+        return OTHER_PLACES;
+    }
+    let wide: Vec<u16> = narrow.iter().map(|&label| u16::from(label)).collect();
+    labels.copy_from_slice(&wide);
+    0
 }
 
 /// The card of a swatch, both as text.
@@ -317,7 +362,7 @@ fn first_card_ground(bytes: &[u8], closeness: i32, places: usize) -> u32 {
         (4, bytes.is_empty() || !bytes.len().is_multiple_of(3)),
         (5, pixels as u128 > MOST_PIXELS),
         (8, !is_served(closeness)),
-        (9, places != pixels),
+        (OTHER_PLACES, places != pixels),
     ])
 }
 
@@ -346,6 +391,6 @@ fn first_of(grounds: &[(u32, bool)]) -> u32 {
         .map_or(0, |(number, _)| *number)
 }
 
-fn widened(histogram: &[u32]) -> Vec<u64> {
+fn counts(histogram: &[u32]) -> Vec<u64> {
     histogram.iter().map(|&count| u64::from(count)).collect()
 }

@@ -157,8 +157,8 @@ fn a_ground_has_six_columns_and_a_line_feed() {
 #[test]
 fn room_is_for_the_most_entries() {
     let line = |fields: usize| 6 * fields + 1;
-    assert_eq!(MOST_PRINTED, line(3) + 255 * line(8));
-    assert_eq!(MOST_PRINTED, 12_514);
+    assert_eq!(MOST_PRINTED, line(3) + 1_000 * line(8));
+    assert_eq!(MOST_PRINTED, 49_019);
 }
 
 /// Greens with one hue bin left out, where the ring opens, and blues. The traits are those of what is served only.
@@ -169,9 +169,10 @@ fn a_card_comes_with_the_traits_of_its_hues() {
     pixels.extend([[100, 0, 200], [96, 0, 200]].repeat(40));
     let bytes = pixels.concat();
     for (closeness, number, joins) in [(0, 0, 1), (MOST_CLOSENESS + 1, 8, 0)] {
+        let carded = Carded::of(&bytes, closeness, 112);
         let (mut labels, mut same_labels) = (vec![99; 112], vec![99; 112]);
-        let (answer, traits) = card_and_hue_traits(&bytes, closeness, &mut labels);
-        assert_eq!((answer.number, traits.joins), (number, joins));
+        let answer = carded.answer(&mut labels);
+        assert_eq!((answer.number, carded.hue_traits().joins), (number, joins));
         assert_eq!(card(&bytes, closeness, &mut same_labels), answer);
         assert_eq!(labels, same_labels);
     }

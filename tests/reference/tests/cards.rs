@@ -1,5 +1,9 @@
 //! Cards of small swatches, and what holds for every card.
 
+#[path = "common/mixed.rs"]
+mod mixed;
+
+use mixed::mixed;
 use reference::calls::LEAST_CLOSENESS;
 use reference::cards::{card, Entry, Pixel};
 use reference::measures::measures;
@@ -200,14 +204,6 @@ fn a_parent_s_pixels_only() {
     let card = card(&pixels, 0);
     assert_eq!(card.entries.len(), 2, "{:?}", card.entries);
     assert_eq!(card.entries[0].count, 61);
-}
-
-/// Pixels of many colours, without a pattern.
-fn mixed(count: u32) -> Vec<Pixel> {
-    let byte = |index: u32, factor: u32| (index.wrapping_mul(factor) >> 20) as u8;
-    (1..=count)
-        .map(|index| [2_654_435_761, 2_246_822_519, 3_266_489_917].map(|f| byte(index, f)))
-        .collect()
 }
 
 /// D3: each entry's count is the number of pixels that bear its number, and they add up.
