@@ -157,11 +157,15 @@ fn pixels() -> Vec<Made> {
     texts
 }
 
-/// Ground 3 again: texts as long as the longest swatch, and before ground 11.
+/// Ground 3 again: texts as long as the longest swatch; with more entries than labels of one byte can tell apart; and with
+/// more than a card may hold, where it comes before ground 11.
 fn long() -> Vec<Made> {
     let header = "   128   128\n";
-    let mut full = Swatch::row(full_cards::pixels(256, 10)).text();
-    full.pop();
+    let without_last_byte = |entries: usize| {
+        let mut text = Swatch::row(full_cards::pixels(entries, 10)).text();
+        text.pop();
+        text
+    };
     vec![
         made(
             "16384-pixels-one-byte-too-long",
@@ -173,6 +177,11 @@ fn long() -> Vec<Made> {
             3,
             format!("{header}{}", BLACK.repeat(16_384).trim_end()),
         ),
-        made("256-entries-line-feed-missing", 3, full),
+        made("256-entries-line-feed-missing", 3, without_last_byte(256)),
+        made(
+            "1001-entries-line-feed-missing",
+            3,
+            without_last_byte(1_001),
+        ),
     ]
 }

@@ -1,4 +1,4 @@
-//! The stored swatches whose texts are well formed. All but one are served.
+//! The stored swatches whose texts are well formed. All but one, which has too many entries, are served.
 
 use crate::full_cards;
 use crate::random::Random;
@@ -71,11 +71,15 @@ pub fn swatches() -> Vec<Made> {
         served("16384-pixels", cloth(128, 128, 9)),
         served("254-entries", full(254)),
         served("255-entries", full(255)),
+        served("256-entries", full(256)),
+        served("257-entries", full(257)),
+        served("999-entries", full(999)),
+        served("1000-entries", full(1_000)),
     ];
     made.push(Made {
-        name: "256-entries",
+        name: "1001-entries",
         number: 11,
-        text: full(256).text(),
+        text: full(1_001).text(),
     });
     made
 }

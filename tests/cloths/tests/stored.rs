@@ -1,7 +1,7 @@
 //! The stored files are those that are made, and their cards are what the reference prints.
 
 use cloths::stored::{folders, printed};
-use reference::calls::print_card;
+use reference::calls::{print_card, MOST_PRINTED};
 use reference::cards::{card, Pixel};
 use reference::measures::measures;
 use reference::{lines, rings, swatches};
@@ -60,17 +60,23 @@ fn names_differ_and_every_ground_is_met() {
     assert!(examples.made.iter().all(|made| made.number == 0));
 }
 
+/// The limit, and the one that labels of one byte once set.
 #[test]
-fn the_limit_is_met_exactly() {
+fn the_limits_are_met_exactly() {
     let [swatches, _] = folders();
     let card = |name: &str| {
         let made = swatches.made.iter().find(|made| made.name == name);
         String::from_utf8(printed(&made.expect(name).text)).expect("a card is text")
     };
-    assert!(card("254-entries").starts_with("   254  2540     0\n"));
-    assert!(card("255-entries").starts_with("   255  2550     0\n"));
-    assert_eq!(card("256-entries"), "    11\n");
-    assert_eq!(card("255-entries").lines().count(), 256);
+    for entries in [254, 255, 256, 257, 999, 1_000] {
+        let card = card(&format!("{entries}-entries"));
+        let head = format!("{entries:6}{:6}     0", 10 * entries);
+        assert_eq!(card.lines().next(), Some(head.as_str()));
+        assert_eq!(card.lines().count(), entries + 1);
+    }
+    assert_eq!(card("1000-entries").len(), MOST_PRINTED);
+    assert_eq!(card("1001-entries"), "    11\n");
+    assert_eq!(card("1001-entries-line-feed-missing"), "     3\n");
 }
 
 #[test]
