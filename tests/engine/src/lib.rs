@@ -68,11 +68,18 @@ pub fn replay(
     unsafe { raw::kistrovu_replay(bins, len, closeness, joins, numbers, list, places) }
 }
 
-pub fn card(pixels: &mut [u8], closeness: i32, labels: &mut [u8]) -> Card {
+pub fn card(pixels: &mut [u8], closeness: i32, labels: &mut [u16]) -> Card {
     let (start, bytes) = (pixels.as_mut_ptr(), pixels.len());
     let (list, places) = (labels.as_mut_ptr(), labels.len());
     // SAFETY: each pointer and length are those of one slice, lent for the time of the call; the two do not overlap.
     unsafe { raw::kistrovu_card(start, bytes, closeness, list, places) }
+}
+
+pub fn widen_labels(narrow: &mut [u8], labels: &mut [u16]) -> u32 {
+    let (start, count) = (narrow.as_mut_ptr(), narrow.len());
+    let (list, places) = (labels.as_mut_ptr(), labels.len());
+    // SAFETY: each pointer and length are those of one slice, lent for the time of the call; the two do not overlap.
+    unsafe { raw::kistrovu_widen_labels(start, count, list, places) }
 }
 
 pub fn print_card(text: &mut [u8]) -> Printed {
