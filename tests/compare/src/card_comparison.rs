@@ -2,12 +2,18 @@
 //! entry, label or byte that differs is shown.
 
 use crate::card_groups::CardCase;
-use crate::comparison::{Difference, Tally};
+use crate::comparison::{same, Difference, Tally};
+use crate::labels::{inside, lent, AROUND};
 use engine::{Card, IntoRaw, Printed};
+use reference::calls::{Carded, MOST_ENTRIES, MOST_NARROW_ENTRIES, TOO_MANY_ENTRIES};
 use reference::cards::COLOUR;
 
-/// Places in front of and behind the labels that were lent: they are not the engine's to write.
-const AROUND: usize = 5;
+/// What a card call hands back and what it leaves behind, with the places around the labels.
+struct Outcome {
+    card: Card,
+    labels: Vec<u16>,
+    bytes: Vec<u8>,
+}
 
 pub fn card(case: &CardCase, tally: &mut Tally) -> Result<(), Difference> {
     let CardCase {
@@ -15,50 +21,127 @@ pub fn card(case: &CardCase, tally: &mut Tally) -> Result<(), Difference> {
         closeness,
         places,
     } = case;
-    let mut lent = bytes.clone();
-    let mut list = unwritten(places + 2 * AROUND);
-    let mut expected_list = list.clone();
-    let labels = AROUND..AROUND + places;
-    let answer = engine::card(&mut lent, *closeness, &mut list[labels.clone()]);
-    let (expected, hue_traits) =
-        reference::calls::card_and_hue_traits(bytes, *closeness, &mut expected_list[labels]);
-    let expected = expected.into_raw();
-    tally.round.count(hue_traits, hue_modes(&expected));
+    let found = by_the_engine(case);
+    let carded = Carded::of(bytes, *closeness, *places);
+    let expected = by_the_reference(case, &carded);
     tally.cards += 1;
-    tally.count(expected.number);
-    tally.several += u64::from(expected.len > 1);
-    tally.most = tally.most.max(expected.len);
-    if (expected, &expected_list, bytes) == (answer, &list, &lent) {
+    tally.count(expected.card.number);
+    let entries = expected.card.len as usize;
+    tally.entries.count(expected.card.number, entries);
+    tally.several += u64::from(entries > 1);
+    tally.most = tally.most.max(expected.card.len);
+    let hues = hue_modes(&expected.card);
+    tally.round.count(carded.hue_traits(), hues);
+    let input = || {
+        format!(
+            "card {} of the group, closeness {closeness}, {places} labels, {} bytes {}",
+            tally.cards,
+            bytes.len(),
+            shown_pixels(bytes)
+        )
+    };
+    same_outcome(input, &expected, &found)?;
+    same_under_the_narrow_limit(input, case, &carded, &found)
+}
+
+fn by_the_engine(case: &CardCase) -> Outcome {
+    let (mut bytes, mut labels) = (case.bytes.clone(), lent(case.places));
+    let card = engine::card(&mut bytes, case.closeness, inside(&mut labels));
+    Outcome {
+        card,
+        labels,
+        bytes,
+    }
+}
+
+fn by_the_reference(case: &CardCase, carded: &Carded) -> Outcome {
+    let mut labels = lent(case.places);
+    Outcome {
+        card: carded.answer(inside(&mut labels)).into_raw(),
+        labels,
+        bytes: case.bytes.clone(),
+    }
+}
+
+/// C10: what the engine gives is what there would be if 255 entries were the most, with the labels of one byte of that card
+/// widened by the engine. Only where that is ground 11 is it another card or the same ground.
+fn same_under_the_narrow_limit(
+    input: impl Fn() -> String,
+    case: &CardCase,
+    carded: &Carded,
+    found: &Outcome,
+) -> Result<(), Difference> {
+    let mut narrow = vec![0; case.places];
+    let card = carded.narrow_answer(&mut narrow).into_raw();
+    if card.number == TOO_MANY_ENTRIES {
+        let more = found.card.len as usize > MOST_NARROW_ENTRIES;
+        let other = more || found.card.number == TOO_MANY_ENTRIES;
+        return same(
+            || format!("more than 255 entries, {}", input()),
+            true,
+            other,
+        );
+    }
+    let mut labels = lent(case.places);
+    if card.number == 0 {
+        let number = engine::widen_labels(&mut narrow, inside(&mut labels));
+        same(|| format!("labels widened, {}", input()), 0, number)?;
+    }
+    let before = Outcome {
+        card,
+        labels,
+        bytes: case.bytes.clone(),
+    };
+    let input = || format!("with 255 entries as the most, {}", input());
+    same_outcome(input, &before, found)
+}
+
+fn same_outcome(
+    input: impl Fn() -> String,
+    expected: &Outcome,
+    found: &Outcome,
+) -> Result<(), Difference> {
+    let entry =
+        (0..MOST_ENTRIES).find(|&place| expected.card.entries[place] != found.card.entries[place]);
+    let label = first_difference(&expected.labels, &found.labels);
+    let byte = first_difference(&expected.bytes, &found.bytes);
+    let head = |outcome: &Outcome| (outcome.card.number, outcome.card.len);
+    let differ = [entry, label, byte].iter().any(Option::is_some);
+    if head(expected) == head(found) && !differ {
         return Ok(());
     }
-    let input = format!(
-        "card {} of the group, closeness {closeness}, {places} labels, {} bytes {}",
-        tally.cards,
-        bytes.len(),
-        shown_pixels(bytes)
-    );
-    let entry = (0..expected.entries.len()).find(|&e| expected.entries[e] != answer.entries[e]);
-    let label = (0..list.len()).find(|&place| expected_list[place] != list[place]);
-    let byte = (0..lent.len()).find(|&place| bytes[place] != lent[place]);
-    let told = |card: &Card, list: &[u8], bytes: &[u8]| {
-        let mut told = format!("number {}, {} entries", card.number, card.len);
-        if let Some(e) = entry {
-            told += &format!("; entry {e}: {:?}", card.entries[e]);
-        }
-        if let Some(place) = label {
-            let pixel = place as i64 - AROUND as i64;
-            told += &format!("; label of pixel {pixel}: {}", list[place]);
-        }
-        if let Some(place) = byte {
-            told += &format!("; pixel byte {place}: {}", bytes[place]);
-        }
-        told
-    };
+    let told = |outcome: &Outcome| told_outcome(outcome, entry, label, byte);
     Err(Difference {
-        input,
-        reference: told(&expected, &expected_list, bytes),
-        engine: told(&answer, &list, &lent),
+        input: input(),
+        reference: told(expected),
+        engine: told(found),
     })
+}
+
+fn first_difference<T: PartialEq>(expected: &[T], found: &[T]) -> Option<usize> {
+    (0..found.len()).find(|&place| expected[place] != found[place])
+}
+
+/// With what it has in the places that are given.
+fn told_outcome(
+    outcome: &Outcome,
+    entry: Option<usize>,
+    label: Option<usize>,
+    byte: Option<usize>,
+) -> String {
+    let card = &outcome.card;
+    let mut told = format!("number {}, {} entries", card.number, card.len);
+    if let Some(place) = entry {
+        told += &format!("; entry {place}: {:?}", card.entries[place]);
+    }
+    if let Some(place) = label {
+        let pixel = place as i64 - AROUND as i64;
+        told += &format!("; label of pixel {pixel}: {}", outcome.labels[place]);
+    }
+    if let Some(place) = byte {
+        told += &format!("; pixel byte {place}: {}", outcome.bytes[place]);
+    }
+    told
 }
 
 /// Each has entries, and the entries are in the order of the hue modes, which number from 0.
@@ -76,6 +159,9 @@ pub fn text(text: &[u8], tally: &mut Tally) -> Result<(), Difference> {
     let expected = reference::calls::print_card(text).into_raw();
     tally.texts += 1;
     tally.count(expected.number);
+    tally
+        .entries
+        .count(expected.number, entries_printed(&expected));
     if let Some(count) = tally.grounds.get_mut(expected.number as usize) {
         *count += 1;
     }
@@ -88,6 +174,13 @@ pub fn text(text: &[u8], tally: &mut Tally) -> Result<(), Difference> {
         reference: told(&expected, text),
         engine: told(&answer, &lent),
     })
+}
+
+/// A printed card has a line for each entry behind its first line.
+fn entries_printed(printed: &Printed) -> usize {
+    let bytes = &printed.bytes[..printed.len as usize];
+    let lines = bytes.iter().filter(|&&byte| byte == b'\n').count();
+    lines.saturating_sub(1)
 }
 
 pub fn ground(number: u32, tally: &mut Tally) -> Result<(), Difference> {
@@ -116,11 +209,6 @@ fn told(printed: &Printed) -> String {
     )
 }
 
-/// Each place another number than the ones next to it, so that a place that is written shows, or nearly always.
-fn unwritten(places: usize) -> Vec<u8> {
-    (0..places).map(|place| (251 - place % 241) as u8).collect()
-}
-
 /// The start of a text.
 pub fn shown(text: &[u8]) -> String {
     const MOST: usize = 400;
@@ -135,4 +223,61 @@ fn shown_pixels(bytes: &[u8]) -> String {
     let first: Vec<&[u8]> = bytes.chunks(3).take(MOST).collect();
     let rest = if bytes.len() > 3 * MOST { " .." } else { "" };
     format!("{first:?}{rest}")
+}
+
+#[cfg(test)]
+mod tests {
+    use super::*;
+    use cloths::full_cards;
+
+    /// A card of this many entries.
+    fn case(entries: usize) -> CardCase {
+        let pixels = full_cards::pixels(entries, 10);
+        CardCase {
+            bytes: pixels.concat(),
+            closeness: 0,
+            places: pixels.len(),
+        }
+    }
+
+    fn altered(case: &CardCase, alter: fn(&mut Outcome)) -> Outcome {
+        let mut found = by_the_engine(case);
+        alter(&mut found);
+        found
+    }
+
+    const ALTERED: [fn(&mut Outcome); 7] = [
+        |found| found.card.number = 9,
+        |found| found.card.len += 1,
+        |found| found.card.entries[2].count += 1,
+        |found| found.card.entries[MOST_ENTRIES - 1].red = 1,
+        |found| found.labels[AROUND] += 256,
+        |found| found.labels[0] = 0,
+        |found| found.bytes[0] += 1,
+    ];
+
+    #[test]
+    fn whatever_differs_is_noticed() {
+        let case = case(20);
+        let carded = Carded::of(&case.bytes, 0, case.places);
+        let expected = by_the_reference(&case, &carded);
+        let told = || String::new();
+        assert!(same_outcome(told, &expected, &by_the_engine(&case)).is_ok());
+        for alter in ALTERED {
+            let found = altered(&case, alter);
+            assert!(same_outcome(told, &expected, &found).is_err());
+            assert!(same_under_the_narrow_limit(told, &case, &carded, &found).is_err());
+        }
+    }
+
+    #[test]
+    fn more_than_255_entries_are_another_card_or_ground_11() {
+        let case = case(256);
+        let carded = Carded::of(&case.bytes, 0, case.places);
+        let check = |found: &Outcome| {
+            same_under_the_narrow_limit(String::new, &case, &carded, found).is_ok()
+        };
+        assert!(check(&by_the_engine(&case)));
+        assert!(!check(&altered(&case, |found| found.card.len = 255)));
+    }
 }

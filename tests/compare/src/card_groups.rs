@@ -2,8 +2,11 @@
 
 use crate::card_shapes::{self, CardShape, SHAPES};
 use crate::closenesses;
-use crate::joined_cards::{self, JoinedCardShape};
+use crate::comparison::{Failure, Tally};
+use crate::entry_counts::EntryCounts;
+use crate::joined_cards::{self, shuffled, JoinedCardShape};
 use crate::joined_shapes;
+use crate::least;
 use crate::round_joins::Least;
 use cloths::full_cards;
 use cloths::random::Random;
@@ -25,19 +28,24 @@ pub enum CardSource {
     Draw(CardShape, usize, usize),
     /// Drawn from one shape made for joins round the ring of hues; how many, in thousandths of the count.
     JoinedDraw(JoinedCardShape, usize, Least),
+    /// A list made for numbers of entries, and how many cards of which numbers it has to have.
+    Full(fn(&mut Random) -> Vec<CardCase>, EntryCounts),
 }
 
-use CardSource::{Draw, JoinedDraw, List};
+use CardSource::{Draw, Full, JoinedDraw, List};
 
-pub const CARDS: [(&str, CardSource); 22] = [
+pub const CARDS: [(&str, CardSource); 26] = [
     ("samples", List(samples)),
     ("grounds", List(grounds)),
     ("one pixel", List(one_pixel)),
     ("two pixels", List(two_pixels)),
     ("all equal", List(all_equal)),
     ("every closeness -12 to 22", List(every_closeness)),
-    ("255 and 256 entries", List(limit)),
-    ("around 255 entries", List(around_the_limit)),
+    ("254 to 257 entries", Full(narrow_limit, LEAST_OF_257)),
+    (
+        "around 255 entries",
+        Full(around_the_narrow_limit, LEAST_AROUND_255),
+    ),
     ("up to 65,536 pixels", List(large)),
     ("few pixels", Draw(any, 40, 5)),
     ("noise", Draw(card_shapes::noise, 2000, 3)),
@@ -61,6 +69,19 @@ pub const CARDS: [(&str, CardSource); 22] = [
         "one hue left out",
         JoinedDraw(joined_cards::hue_left_out, 6, LEAST_OF_HUES_LEFT_OUT),
     ),
+    ("511 to 1,391 entries", Full(limit, LEAST_OF_1_391)),
+    (
+        "around 1,000 entries",
+        Full(around_the_limit, LEAST_AROUND_1_000),
+    ),
+    (
+        "noise of many entries",
+        Full(noise_of_many_entries, LEAST_OF_NOISE),
+    ),
+    (
+        "any number of entries",
+        Full(any_number_of_entries, LEAST_OF_ANY_NUMBER),
+    ),
 ];
 
 const LEAST_OF_RINGS: Least = Least {
@@ -78,6 +99,14 @@ const LEAST_OF_HUES_LEFT_OUT: Least = Least {
     rotated: 0,
 };
 
+const LEAST_OF_257: EntryCounts = EntryCounts::of([10, 10, 0, 0, 0]);
+const LEAST_OF_1_391: EntryCounts = EntryCounts::of([0, 30, 15, 5, 30]);
+// The other numbers are well below what the run without arguments has, so that another seed does not fall below by chance.
+const LEAST_AROUND_255: EntryCounts = EntryCounts::of([15, 5, 0, 0, 0]);
+const LEAST_AROUND_1_000: EntryCounts = EntryCounts::of([0, 10, 10, 0, 10]);
+const LEAST_OF_NOISE: EntryCounts = EntryCounts::of([0, 15, 10, 0, 3]);
+const LEAST_OF_ANY_NUMBER: EntryCounts = EntryCounts::of([3, 15, 5, 0, 5]);
+
 impl CardSource {
     /// Hands each case on, until one is refused.
     pub fn each<E>(
@@ -87,7 +116,7 @@ impl CardSource {
         mut visit: impl FnMut(&CardCase) -> Result<(), E>,
     ) -> Result<(), E> {
         match self {
-            List(list) => list(random).iter().try_for_each(visit),
+            List(list) | Full(list, _) => list(random).iter().try_for_each(visit),
             Draw(shape, most, share) => {
                 (0..count * share / 1000).try_for_each(|_| visit(&draw(random, *shape, *most)))
             }
@@ -97,11 +126,13 @@ impl CardSource {
         }
     }
 
-    /// How many joins round the ring of hues, and hue modes not in the order of bin numbers, the group is to have.
-    pub fn least(&self) -> Option<&Least> {
+    /// Whether there were enough joins round the ring of hues and enough hue modes not in the order of bin numbers, or enough
+    /// cards of the numbers of entries that the group is made for.
+    pub fn check(&self, tally: &Tally) -> Result<(), Failure> {
         match self {
-            List(_) | Draw(..) => None,
-            JoinedDraw(_, _, least) => Some(least),
+            List(_) | Draw(..) => Ok(()),
+            JoinedDraw(_, _, least) => least.check(&tally.round),
+            Full(_, least) => least::reached(tally.entries.named(), least.named()),
         }
     }
 }
@@ -188,7 +219,15 @@ fn grounds(_: &mut Random) -> Vec<CardCase> {
     ] {
         for closeness in closenesses::AT_THE_ENDS {
             let pixels = bytes / 3;
-            for places in [0, pixels.saturating_sub(1), pixels, pixels + 1, bytes] {
+            for places in [
+                0,
+                pixels / 2,
+                pixels.saturating_sub(1),
+                pixels,
+                pixels + 1,
+                2 * pixels,
+                bytes,
+            ] {
                 cases.push(CardCase {
                     bytes: vec![closeness as u8; bytes],
                     closeness,
@@ -240,35 +279,84 @@ fn every_closeness(random: &mut Random) -> Vec<CardCase> {
         .collect()
 }
 
-/// Enough pixels for each entry that none joins at this closeness: 255 are served, 256 are not.
+/// So many pixels for each entry that none joins at this closeness.
+const ENOUGH: [(usize, i32); 5] = [
+    (1, LEAST_CLOSENESS),
+    (10, 0),
+    (64, 0),
+    (64, 10),
+    (250, MOST_CLOSENESS),
+];
+
+/// On both sides of the 255 entries to which labels of one byte are limited.
+fn narrow_limit(_: &mut Random) -> Vec<CardCase> {
+    full([254, 255, 256, 257])
+}
+
+/// 1,000 are served, 1,001 are not. Of the larger ones some look small in 8 or in 10 bits.
 fn limit(_: &mut Random) -> Vec<CardCase> {
+    let most = full_cards::MOST;
+    full([
+        511, 512, 652, 653, 999, 1_000, 1_001, 1_002, 1_024, 1_025, 1_256, most,
+    ])
+}
+
+/// Cards of these numbers of entries, at each closeness with enough pixels, as far as an image can have so many.
+fn full<const N: usize>(numbers: [usize; N]) -> Vec<CardCase> {
     let mut cases = Vec::new();
-    for (each, closeness) in [
-        (1, LEAST_CLOSENESS),
-        (10, 0),
-        (64, 0),
-        (64, 10),
-        (250, MOST_CLOSENESS),
-    ] {
-        for entries in [254, 255, 256, 257] {
+    for (each, closeness) in ENOUGH {
+        for entries in numbers {
+            let each = each.min(MOST_PIXELS as usize / entries);
             cases.push(fitting(&full_cards::pixels(entries, each), closeness));
         }
     }
     cases
 }
 
-/// As many pixels as it takes for nothing to join, a few more or less.
+fn around_the_narrow_limit(random: &mut Random) -> Vec<CardCase> {
+    around(random, 240, 262)
+}
+
 fn around_the_limit(random: &mut Random) -> Vec<CardCase> {
+    around(random, 970, 1_040)
+}
+
+fn any_number_of_entries(random: &mut Random) -> Vec<CardCase> {
+    let mut cases = around(random, 4, full_cards::MOST as u32);
+    for case in &mut cases {
+        let pixels = case
+            .bytes
+            .chunks_exact(3)
+            .map(|rgb| [rgb[0], rgb[1], rgb[2]]);
+        case.bytes = shuffled(random, pixels.collect()).concat();
+    }
+    cases
+}
+
+/// As many pixels as it takes for nothing to join, a few more or less.
+fn around(random: &mut Random, fewest: u32, most: u32) -> Vec<CardCase> {
     (0..60)
         .map(|_| {
-            let entries = random.within(240, full_cards::MOST as u32) as usize;
+            let entries = random.within(fewest, most) as usize;
             let closeness = closenesses::served(random);
             let each = 7 + random.below(8) + 2 * closeness.max(0) as usize;
+            let each = each.min(MOST_PIXELS as usize / entries);
             let mut pixels = full_cards::pixels(entries, each);
             for _ in 0..random.below(20) {
                 pixels.swap_remove(random.below(pixels.len()));
             }
             fitting(&pixels, closeness)
+        })
+        .collect()
+}
+
+/// Any pixels, at closenesses that keep most of them apart: the entries are of no pattern.
+fn noise_of_many_entries(random: &mut Random) -> Vec<CardCase> {
+    (0..50)
+        .map(|_| {
+            let count = random.within(200, 2_400) as usize;
+            let closeness = random.signed_within(LEAST_CLOSENESS, LEAST_CLOSENESS + 2);
+            fitting(&card_shapes::noise(random, count), closeness)
         })
         .collect()
 }

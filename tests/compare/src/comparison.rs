@@ -1,10 +1,12 @@
 //! Engine and reference side by side: what was compared, and the first difference.
 
+use crate::entry_counts::EntryCounts;
 use crate::groups::Case;
 use crate::logs::LogTally;
 use crate::mode_groups::ModesCase;
 use crate::round_joins::RoundTally;
 use crate::turned_rings::TurnTally;
+use crate::widenings::WideningTally;
 use engine::IntoRaw;
 use reference::calls::{self, ModesAnswer};
 use reference::rings::Finished;
@@ -21,6 +23,7 @@ pub struct Calls {
     pub turns: bool,
     pub logs: bool,
     pub cards: bool,
+    pub widenings: bool,
     pub texts: bool,
     pub stored: bool,
 }
@@ -36,6 +39,7 @@ impl Calls {
             turns: compared,
             logs: compared,
             cards: compared,
+            widenings: compared,
             texts: compared,
             stored: compared,
         }
@@ -53,6 +57,7 @@ impl Calls {
             "turns" => &mut calls.turns,
             "logs" => &mut calls.logs,
             "cards" => &mut calls.cards,
+            "widenings" => &mut calls.widenings,
             "texts" => &mut calls.texts,
             "stored" => &mut calls.stored,
             _ => return None,
@@ -85,6 +90,8 @@ pub struct Tally {
     pub several: u64,
     /// The most entries of a card.
     pub most: u32,
+    /// Of cards, and of texts.
+    pub entries: EntryCounts,
     /// Texts by number.
     pub grounds: [u64; 12],
     pub served: u64,
@@ -97,6 +104,8 @@ pub struct Tally {
     pub turned: TurnTally,
     /// Of lines whose joins were logged.
     pub logs: LogTally,
+    /// Of label lists of one byte each.
+    pub widenings: WideningTally,
 }
 
 impl Tally {

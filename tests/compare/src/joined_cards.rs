@@ -99,7 +99,7 @@ fn dyed(random: &mut Random, hues: &[usize]) -> Vec<Pixel> {
     shuffled(random, pixels)
 }
 
-fn shuffled(random: &mut Random, mut pixels: Vec<Pixel>) -> Vec<Pixel> {
+pub fn shuffled(random: &mut Random, mut pixels: Vec<Pixel>) -> Vec<Pixel> {
     for place in 1..pixels.len() {
         pixels.swap(place, random.below(place + 1));
     }

@@ -4,16 +4,20 @@
 //!
 //!     cargo run --release -p compare -- [--seed S] [--count N] [--only CALLS]
 //!
-//! CALLS is one of measures, fits, verdicts, lines, rings, turns, logs, cards, texts and stored; turns are rings that are
-//! turned as well, logs are those of the joins of lines, written and replayed. KISTROVU_LIB names another folder to take
-//! `libkistrovu.a` from; KISTROVU_CARD names the card program, which is then run on the stored swatches too.
+//! CALLS is one of measures, fits, verdicts, lines, rings, turns, logs, cards, widenings, texts and stored; turns are rings
+//! that are turned as well, logs are those of the joins of lines, written and replayed, widenings those of labels of one
+//! byte. KISTROVU_LIB names another folder to take `libkistrovu.a` from; KISTROVU_CARD names the card program, which is then
+//! run on the stored swatches too.
 //! Without arguments the run is the same every time: all pixels, the listed histograms, lines, rings, swatches and texts,
 //! and random ones: `COUNT` histograms, and the shares of `COUNT` that the lists of groups give. Each group prints a
 //! line; at the first difference a group ends with the input and both answers. A group of rings or swatches made for joins
 //! round the ring, or for modes that are not in the order of bin numbers, also fails if it has too few of them, and so does
 //! a group of turned rings with too few on which a turn shows, and a group of logs with too few that show how joins are
-//! numbered, which way they are made or that a spoiled log is turned down. The last line is the number of groups passed and failed, and
-//! the exit code is 1 if one failed.
+//! numbered, which way they are made or that a spoiled log is turned down. Groups of cards and texts made for many entries
+//! fail if too few have more than labels of one byte can tell apart, exactly the most or too many, and groups of widenings
+//! if too few are served or turned down. Every card of at most 255 entries is compared with the card under that limit as
+//! well, its labels of one byte widened by the engine. The last line is the number of groups passed and failed, and the
+//! exit code is 1 if one failed.
 
 use cloths::random::Random;
 use compare::card_groups::CARDS;
@@ -24,7 +28,8 @@ use compare::mode_groups::{ModesSource, BOTH, LINES, RINGS};
 use compare::round_joins::Least;
 use compare::text_groups::{GROUNDS, TEXTS};
 use compare::turned_groups::TURNED;
-use compare::{card_comparison, logs, stored};
+use compare::widening_groups::WIDENINGS;
+use compare::{card_comparison, least, logs, stored, widenings};
 use std::process::ExitCode;
 
 const SEED: u64 = 1;
@@ -38,8 +43,9 @@ const PROGRAM_STREAM: usize = 500;
 const GROUND_STREAMS: usize = 600;
 const TURN_STREAMS: usize = 700;
 const LOG_STREAMS: usize = 800;
+const WIDENING_STREAMS: usize = 900;
 const USAGE: &str = "usage: compare [--seed S] [--count N] \
-    [--only measures|fits|verdicts|lines|rings|turns|logs|cards|texts|stored]";
+    [--only measures|fits|verdicts|lines|rings|turns|logs|cards|widenings|texts|stored]";
 
 struct Options {
     seed: u64,
@@ -121,6 +127,9 @@ fn run(options: &Options) -> (usize, usize) {
     }
     if calls.cards {
         run.cards();
+    }
+    if calls.widenings {
+        run.widenings();
     }
     if calls.texts {
         run.texts();
@@ -208,8 +217,26 @@ impl Run<'_> {
             let outcome = source.each(&mut random, self.options.count, |case| {
                 card_comparison::card(case, &mut tally)
             });
-            let outcome = judged(outcome, source.least(), &tally);
+            let outcome = outcome
+                .map_err(Failure::from)
+                .and_then(|()| source.check(&tally));
             self.note(&format!("card, {name}"), tally, outcome);
+        }
+    }
+
+    fn widenings(&mut self) {
+        for (index, group) in WIDENINGS.iter().enumerate() {
+            let mut tally = Tally::default();
+            let mut random = self.stream(WIDENING_STREAMS + index);
+            let cases = (group.cases)(&mut random, self.options.count);
+            let outcome = cases
+                .iter()
+                .try_for_each(|case| widenings::compare(case, &mut tally));
+            let found = tally.widenings.found.named();
+            let outcome = outcome
+                .map_err(Failure::from)
+                .and_then(|()| least::reached(found, group.least.named()));
+            self.note(&format!("labels widened, {}", group.name), tally, outcome);
         }
     }
 
@@ -220,6 +247,9 @@ impl Run<'_> {
             let outcome = source.each(&mut random, self.options.count, |text| {
                 card_comparison::text(text, &mut tally)
             });
+            let outcome = outcome
+                .map_err(Failure::from)
+                .and_then(|()| source.check(&tally));
             self.note(&format!("text, {name}"), tally, outcome);
         }
     }
@@ -284,6 +314,8 @@ fn compared(tally: &Tally) -> String {
         let (served, turned_down) = (tally.served, tally.turned_down);
         let told = tally.logs.told();
         format!("{served} served, {turned_down} turned down; {told}")
+    } else if tally.widenings.calls > 0 {
+        tally.widenings.told()
     } else if tally.modes > 0 || tally.cards > 0 {
         compared_modes(tally)
     } else if tally.texts > 0 {
@@ -324,6 +356,9 @@ fn compared_modes(tally: &Tally) -> String {
     if tally.turned.rings > 0 {
         told += &format!("; {}", tally.turned.told());
     }
+    if tally.cards > 0 {
+        told += &format!("; {}", least::told(tally.entries.named()));
+    }
     told
 }
 
@@ -334,8 +369,9 @@ fn compared_texts(tally: &Tally) -> String {
         .map(|(n, count)| format!("{count} with {n}"))
         .collect();
     let down = down.join(", ");
+    let entries = least::told(tally.entries.named());
     format!(
-        "{} texts, {} served, {} turned down ({down})",
+        "{} texts, {} served, {} turned down ({down}); cards: {entries}",
         tally.texts, tally.served, tally.turned_down
     )
 }

@@ -2,7 +2,10 @@
 //! is one test.
 
 use crate::card_shapes::SHAPES;
+use crate::comparison::{Failure, Tally};
 use crate::damage::damage;
+use crate::entry_counts::EntryCounts;
+use crate::least;
 use cloths::full_cards;
 use cloths::random::Random;
 use cloths::swatch::Swatch;
@@ -19,9 +22,11 @@ pub enum TextSource {
     List(fn(&mut Random) -> Vec<Vec<u8>>),
     /// Random ones; how many, in thousandths of the count.
     Draw(fn(&mut Random) -> Vec<u8>, usize),
+    /// A list made for numbers of entries, and how many cards of which numbers it has to have.
+    Full(fn(&mut Random) -> Vec<Vec<u8>>, EntryCounts),
 }
 
-use TextSource::{Draw, List};
+use TextSource::{Draw, Full, List};
 
 pub const TEXTS: [(&str, TextSource); 13] = [
     ("samples", List(samples)),
@@ -30,7 +35,10 @@ pub const TEXTS: [(&str, TextSource); 13] = [
     ("every length", List(every_length)),
     ("headers", List(headers)),
     ("every field of four columns", List(every_field)),
-    ("255 and 256 entries", List(limit)),
+    (
+        "254 to 1,391 entries",
+        Full(limits_of_cards, LEAST_OF_1_391),
+    ),
     ("16,384 pixels", List(largest)),
     ("very long", List(very_long)),
     ("well formed", Draw(well_formed, 20)),
@@ -38,6 +46,8 @@ pub const TEXTS: [(&str, TextSource); 13] = [
     ("damaged often", Draw(damaged_often, 40)),
     ("any bytes", Draw(any_bytes, 10)),
 ];
+
+const LEAST_OF_1_391: EntryCounts = EntryCounts::of([4, 14, 6, 2, 8]);
 
 /// Numbers of grounds, drawn for this count.
 pub type Numbers = fn(&mut Random, usize) -> Vec<u32>;
@@ -55,8 +65,16 @@ impl TextSource {
         mut visit: impl FnMut(&[u8]) -> Result<(), E>,
     ) -> Result<(), E> {
         match self {
-            List(list) => list(random).iter().try_for_each(|text| visit(text)),
+            List(list) | Full(list, _) => list(random).iter().try_for_each(|text| visit(text)),
             Draw(one, share) => (0..count * share / 1000).try_for_each(|_| visit(&one(random))),
+        }
+    }
+
+    /// Whether there were enough cards of the numbers of entries that the group is made for.
+    pub fn check(&self, tally: &Tally) -> Result<(), Failure> {
+        match self {
+            List(_) | Draw(..) => Ok(()),
+            Full(_, least) => least::reached(tally.entries.named(), least.named()),
         }
     }
 }
@@ -162,11 +180,31 @@ fn every_field(_: &mut Random) -> Vec<Vec<u8>> {
     texts
 }
 
-fn limit(_: &mut Random) -> Vec<Vec<u8>> {
-    [254, 255, 256, 257, full_cards::MOST]
-        .iter()
-        .map(|&entries| Swatch::row(full_cards::pixels(entries, 10)).text())
-        .collect()
+/// Ten pixels for each entry, and as many as a swatch can have; each text without its last byte too, which is ground 3.
+fn limits_of_cards(_: &mut Random) -> Vec<Vec<u8>> {
+    let mut texts = Vec::new();
+    for entries in [
+        254,
+        255,
+        256,
+        257,
+        262,
+        652,
+        653,
+        999,
+        1_000,
+        1_001,
+        1_024,
+        1_256,
+        full_cards::MOST,
+    ] {
+        for each in [10, MOST_SWATCH_PIXELS as usize / entries] {
+            let text = Swatch::row(full_cards::pixels(entries, each)).text();
+            texts.push(text[..text.len() - 1].to_vec());
+            texts.push(text);
+        }
+    }
+    texts
 }
 
 /// Sizes of 16,384 pixels, whole and damaged.
