@@ -23,7 +23,11 @@ pub enum Call {
     Card {
         pixels: Vec<u8>,
         closeness: i32,
-        labels: Vec<u8>,
+        labels: Vec<u16>,
+    },
+    WidenLabels {
+        narrow: Vec<u8>,
+        labels: Vec<u16>,
     },
     PrintCard(Vec<u8>),
     PrintGround(u32),
@@ -110,6 +114,11 @@ pub fn engine(call: &Call) -> Answer {
             let entries = a.entries.map(|entry| entry_figures!(entry));
             card_answer(a.number, a.len, entries.concat(), &labels)
         }
+        Call::WidenLabels { narrow, labels } => {
+            let mut labels = labels.clone();
+            let number = lent(narrow, |lent| engine::widen_labels(lent, &mut labels));
+            labels_answer(number, &labels)
+        }
         Call::PrintCard(text) => {
             let a = lent(text, engine::print_card);
             printed_answer(a.number, a.len, &a.bytes)
@@ -179,6 +188,11 @@ pub fn reference(call: &Call) -> Answer {
             let a = second::card(pixels, *closeness, &mut labels);
             let entries = a.entries.map(|entry| entry_figures!(entry));
             card_answer(a.number, a.len, entries.concat(), &labels)
+        }
+        Call::WidenLabels { narrow, labels } => {
+            let mut labels = labels.clone();
+            let number = second::widen_labels(narrow, &mut labels);
+            labels_answer(number, &labels)
         }
         Call::PrintCard(text) => {
             let a = second::print_card(text);
@@ -260,13 +274,17 @@ fn log_answer(number: u32, joins: u32, log: Vec<i64>) -> Answer {
     ]
 }
 
-fn card_answer(number: u32, len: u32, entries: Vec<i64>, labels: &[u8]) -> Answer {
+fn card_answer(number: u32, len: u32, entries: Vec<i64>, labels: &[u16]) -> Answer {
     vec![
         figure("number", &[number]),
         figure("len", &[len]),
         figure("entry", &entries),
         figure("labels_after", labels),
     ]
+}
+
+fn labels_answer(number: u32, labels: &[u16]) -> Answer {
+    vec![figure("number", &[number]), figure("labels_after", labels)]
 }
 
 fn printed_answer(number: u32, len: u32, bytes: &[u8]) -> Answer {

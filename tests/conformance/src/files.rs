@@ -1,7 +1,7 @@
 //! The files of the kit: each case is run through both implementations, and written if they agree.
 
 use crate::calls::{engine, reference, Answer, Call, Logging};
-use crate::cases::{cards, fits, grounds, logs, modes, pixels, texts, verdicts, Case};
+use crate::cases::{cards, fits, grounds, labels, logs, modes, pixels, texts, verdicts, Case};
 use crate::kept::{folder, FORMAT};
 use crate::writing::{numbers, quoted, rows, text};
 use reference::logs::RECORD;
@@ -56,6 +56,11 @@ fn planned() -> Result<Vec<Planned>, String> {
             logs::replays(),
         ),
         plan("card", "The card of an image.", cards::cases()),
+        plan(
+            "widen_labels",
+            "Labels of one byte each, widened.",
+            labels::cases(),
+        ),
         plan(
             "print_card",
             "The card of a swatch as text.",
@@ -137,6 +142,9 @@ fn given_lines(call: &Call) -> String {
                 + &one("closeness", (*closeness).into())
                 + &numbers("labels", &wide(labels), 1)
         }
+        Call::WidenLabels { narrow, labels } => {
+            numbers("narrow", &wide(narrow), 1) + &numbers("labels", &wide(labels), 1)
+        }
         Call::PrintCard(bytes) => text("text", bytes),
         Call::PrintGround(ground) => one("ground", (*ground).into()),
     }
@@ -157,8 +165,7 @@ fn answer_lines(call: &Call, answer: &Answer) -> Result<String, String> {
         return Ok(rows("pixel", &row, row.len()));
     }
     let served = answer[0].values == [0];
-    // The second figure of a card is how many entries there are, that of a text how many bytes.
-    let len = answer[1].values[0] as usize;
+    let len = len(answer);
     let mut lines = String::new();
     for figure in answer {
         let values = &figure.values;
@@ -176,10 +183,15 @@ fn answer_lines(call: &Call, answer: &Answer) -> Result<String, String> {
     Ok(lines)
 }
 
+/// How many entries a card has, or a text bytes; 0 for what has neither.
+fn len(answer: &Answer) -> usize {
+    let len = answer.iter().find(|figure| figure.name == "len");
+    len.map_or(0, |figure| figure.values[0] as usize)
+}
+
 /// The lines of a stored text. Its card is stored beside it; one that is turned down has none.
 fn kept_lines([text_file, printed_file]: &[String; 2], answer: &Answer) -> Result<String, String> {
-    let len = answer[1].values[0] as usize;
-    let bytes = narrow(before_zeros(&answer[2].values, len)?);
+    let bytes = narrow(before_zeros(&answer[2].values, len(answer))?);
     let printed = if bytes.is_empty() {
         text("printed", &bytes)
     } else if fs::read(folder().join(printed_file)).ok() == Some(bytes) {

@@ -60,6 +60,7 @@ fn from_record(name: &str, record: &Record) -> Result<Vec<Kept>, String> {
         "join_log" => vec![join_log(&mut fields)?],
         "replay" => vec![replay(&mut fields)?],
         "card" => vec![card(&mut fields)?],
+        "widen_labels" => vec![widen_labels(&mut fields)?],
         "print_card" => vec![print_card(&mut fields)?],
         "print_ground" => vec![print_ground(&mut fields)?],
         _ => return Err(format!("no call is kept in {name}")),
@@ -162,6 +163,16 @@ fn card(fields: &mut Fields) -> Result<Pair, String> {
     let written = ENTRY * answer[1].values[0] as usize;
     let entries = fields.list("entry")?;
     answer.push(filled("entry", entries, written, ENTRY * MOST_ENTRIES)?);
+    answer.push(figure("labels_after", fields.list("labels_after")?));
+    Ok((call, answer))
+}
+
+fn widen_labels(fields: &mut Fields) -> Result<Pair, String> {
+    let call = Call::WidenLabels {
+        narrow: fields.list("narrow")?,
+        labels: fields.list("labels")?,
+    };
+    let mut answer = fields.figures(&["number"])?;
     answer.push(figure("labels_after", fields.list("labels_after")?));
     Ok((call, answer))
 }

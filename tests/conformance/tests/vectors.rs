@@ -7,13 +7,14 @@ use reference::calls::Joins;
 use reference::logs::{Logged, RECORD};
 use reference::rings::opening;
 use reference::turns::{lowest_bins, turned, turned_list};
+use std::cmp::Ordering;
 use std::collections::{BTreeMap, BTreeSet};
 use std::fs;
 
 /// A file, the least number of its cases, and the least for each number that its call can give.
 type Least = (&'static str, usize, &'static [(i64, usize)]);
 
-const LEAST: [Least; 10] = [
+const LEAST: [Least; 11] = [
     ("measures", 1300, &[(0, 1300)]),
     ("fit", 300, &[(0, 250), (6, 12), (7, 24)]),
     ("verdict", 500, &[(0, 450), (6, 16), (7, 30), (8, 14)]),
@@ -39,9 +40,10 @@ const LEAST: [Least; 10] = [
     ),
     (
         "card",
-        150,
-        &[(0, 110), (4, 13), (5, 5), (8, 6), (9, 8), (11, 4)],
+        180,
+        &[(0, 140), (4, 13), (5, 5), (8, 7), (9, 10), (11, 4)],
     ),
+    ("widen_labels", 90, &[(0, 65), (9, 25)]),
     (
         "print_card",
         300,
@@ -53,8 +55,8 @@ const LEAST: [Least; 10] = [
 const LEAST_ROTATED: usize = 30;
 /// The fewest lines of whose joins something shows in a file on logs.
 const LEAST_SHOWN: usize = 10;
-/// The most bytes of a file, so that it can be read.
-const MOST_BYTES: usize = 300_000;
+/// The most bytes of a file, so that it can be read. Two cards of about 1,000 entries take a quarter of them.
+const MOST_BYTES: usize = 400_000;
 
 fn kept_text(name: &str) -> String {
     let path = folder().join(format!("{name}.txt"));
@@ -303,6 +305,80 @@ fn each_way_of_looking_at_less_is_shown() {
     for number in 0..RECORD {
         let found = count(&|log, own| but(log, own, number));
         assert!(found >= LEAST_SHOWN, "number {number} of a record: {found}");
+    }
+}
+
+/// The labels that a call is lent and those that it leaves, of the calls that are served, and how many labels a card has.
+struct Labels {
+    lent: Vec<i64>,
+    left: Vec<i64>,
+}
+
+fn labels(name: &str) -> Vec<Labels> {
+    let kept = cases(name, &kept_text(name)).expect(name);
+    let served = kept.into_iter().filter(|case| case.answer[0].values == [0]);
+    let labels = served.map(|case| {
+        let lent = match case.call {
+            Call::Card { labels, .. } | Call::WidenLabels { labels, .. } => labels,
+            _ => panic!("another call in {name}"),
+        };
+        let left = case.answer.last().expect("there are figures");
+        Labels {
+            lent: lent.into_iter().map(i64::from).collect(),
+            left: left.values.clone(),
+        }
+    });
+    labels.collect()
+}
+
+/// Each way in which a label can be kept in one byte, or only one of its bytes be written.
+#[test]
+fn each_way_of_writing_less_than_a_label_is_shown() {
+    let shown = |name: &str, written: fn(i64, i64) -> i64| {
+        let differs = |labels: &Labels| {
+            let mut pairs = labels.lent.iter().zip(&labels.left);
+            pairs.any(|(&lent, &label)| written(lent, label) != label)
+        };
+        labels(name).iter().filter(|labels| differs(labels)).count()
+    };
+    for (name, least_cut) in [("card", 6), ("widen_labels", 0)] {
+        assert!(shown(name, |_, label| label & 0xff) >= least_cut, "{name}");
+        let low = |lent: i64, label: i64| (lent & 0xff00) | (label & 0xff);
+        assert!(shown(name, low) >= 4, "{name}");
+        let high = |lent: i64, label: i64| (label & 0xff00) | (lent & 0xff);
+        assert!(shown(name, high) >= 4, "{name}");
+    }
+}
+
+#[test]
+fn both_limits_of_a_card_are_met_exactly() {
+    let served = labels("card");
+    let entries: BTreeSet<i64> = served
+        .iter()
+        .filter_map(|labels| labels.left.iter().max())
+        .map(|last| last + 1)
+        .collect();
+    for wanted in [254, 255, 256, 257, 262, 999, 1_000] {
+        assert!(entries.contains(&wanted), "{wanted}");
+    }
+    assert_eq!(entries.last(), Some(&1_000));
+}
+
+#[test]
+fn every_byte_is_widened_and_lists_of_other_lengths_are_not() {
+    let mut met = BTreeSet::new();
+    let mut lengths = BTreeMap::new();
+    for case in cases("widen_labels", &kept_text("widen_labels")).expect("widen_labels") {
+        let Call::WidenLabels { narrow, labels } = case.call else {
+            panic!("another call")
+        };
+        let served = case.answer[0].values == [0];
+        met.extend(if served { narrow.clone() } else { vec![] });
+        *lengths.entry(narrow.len().cmp(&labels.len())).or_insert(0) += 1;
+    }
+    assert_eq!(met.len(), 256);
+    for (way, least) in [(Ordering::Less, 10), (Ordering::Greater, 10)] {
+        assert!(lengths[&way] >= least, "{way:?}: {}", lengths[&way]);
     }
 }
 

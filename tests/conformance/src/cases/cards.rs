@@ -1,7 +1,7 @@
 //! Images for the card.
 
 use super::pixels::corners;
-use super::{unwritten_labels, Case};
+use super::{unwritten_labels, unwritten_wide_labels, Case};
 use crate::calls::Call;
 use cloths::full_cards;
 use cloths::random::Random;
@@ -44,11 +44,12 @@ pub fn cases() -> Vec<Case> {
     all.extend(grounds_at_once());
     all.extend(weaves());
     all.extend(drawn());
+    all.extend(whole_labels());
+    all.extend(many_entries());
     all
 }
 
-fn case(what: impl Into<String>, pixels: Vec<u8>, closeness: i32, places: usize) -> Case {
-    let labels = unwritten_labels(places);
+fn lent(what: impl Into<String>, pixels: Vec<u8>, closeness: i32, labels: Vec<u16>) -> Case {
     Case::new(
         what,
         Call::Card {
@@ -59,9 +60,23 @@ fn case(what: impl Into<String>, pixels: Vec<u8>, closeness: i32, places: usize)
     )
 }
 
+fn case(what: impl Into<String>, pixels: Vec<u8>, closeness: i32, places: usize) -> Case {
+    lent(what, pixels, closeness, unwritten_labels(places))
+}
+
+/// With labels of which both bytes show if they are written.
+fn wide(what: impl Into<String>, pixels: Vec<u8>, closeness: i32, places: usize) -> Case {
+    lent(what, pixels, closeness, unwritten_wide_labels(places))
+}
+
 /// With as many labels as pixels.
 fn fitting(what: impl Into<String>, pixels: &[Pixel], closeness: i32) -> Case {
     case(what, pixels.concat(), closeness, pixels.len())
+}
+
+/// With as many such labels as pixels.
+fn fitting_wide(what: impl Into<String>, pixels: &[Pixel], closeness: i32) -> Case {
+    wide(what, pixels.concat(), closeness, pixels.len())
 }
 
 /// So many pixels of each colour.
@@ -337,32 +352,79 @@ fn label_counts() -> Vec<Case> {
     few.into_iter().chain(many).collect()
 }
 
-/// Ground 11 from both sides: with this many pixels for each entry, none is joined.
+/// A card of this many entries: with enough pixels for each, none is joined.
+fn full(entries: usize, each: usize) -> Vec<Pixel> {
+    let colours = full_cards::colours(entries);
+    let all: Vec<(Pixel, usize)> = colours.iter().map(|&colour| (colour, each)).collect();
+    runs(&all)
+}
+
+/// Around the 255 entries to which labels of one byte were limited.
 fn entry_counts() -> Vec<Case> {
-    let full = |entries: usize, each: usize| {
-        let colours = full_cards::colours(entries);
-        let all: Vec<(Pixel, usize)> = colours.iter().map(|&colour| (colour, each)).collect();
-        runs(&all)
-    };
-    let short = "256 entries and a label too few: ground 9 comes first";
+    let short = "256 entries and a label too few: ground 9";
     vec![
         fitting("254 entries", &full(254, 10), 0),
-        fitting("255 entries, the most", &full(255, 10), 0),
-        fitting("256 entries: ground 11", &full(256, 10), 0),
-        fitting("257 entries: ground 11", &full(257, 10), 0),
-        fitting("262 entries: ground 11", &full(full_cards::MOST, 10), 0),
+        fitting("255 entries", &full(255, 10), 0),
+        fitting("256 entries", &full(256, 10), 0),
+        fitting("257 entries", &full(257, 10), 0),
+        fitting("262 entries", &full(262, 10), 0),
         fitting("255 entries at closeness 20", &full(255, 250), 20),
-        fitting(
-            "256 entries at closeness 20: ground 11",
-            &full(256, 250),
-            20,
-        ),
+        fitting("256 entries at closeness 20", &full(256, 250), 20),
         fitting(
             "256 colours that a higher closeness joins",
             &full(256, 10),
             9,
         ),
         case(short, full(256, 10).concat(), 0, 2559),
+    ]
+}
+
+/// Labels are written whole, whatever was lent.
+fn whole_labels() -> Vec<Case> {
+    let pixels = [BLACK, RED, WHITE, BLUE].repeat(20);
+    let bytes = pixels.concat();
+    vec![
+        fitting_wide("labels lent with two bytes each", &pixels, 0),
+        lent("labels lent with zeros", bytes.clone(), 0, vec![0; 80]),
+        lent(
+            "labels lent with ones",
+            bytes.clone(),
+            0,
+            vec![u16::MAX; 80],
+        ),
+        wide("the same and a label too many: ground 9", bytes, 0, 81),
+        fitting_wide("the same at closeness 21: ground 8", &pixels, 21),
+    ]
+}
+
+/// Ground 11 from both sides. At the least closeness a pixel for each entry is enough.
+fn many_entries() -> Vec<Case> {
+    let short = "1,001 entries and a label too few: ground 9 comes first";
+    vec![
+        fitting_wide("999 entries", &full(999, 10), 0),
+        fitting_wide("1,000 entries, the most", &full(1_000, 10), 0),
+        fitting_wide("1,001 entries: ground 11", &full(1_001, 10), 0),
+        fitting_wide(
+            "1,001 entries of a pixel each: ground 11",
+            &full(1_001, 1),
+            LEAST_CLOSENESS,
+        ),
+        fitting_wide(
+            "1,025 entries, which are 1 in 8 bits and in 10: ground 11",
+            &full(1_025, 1),
+            LEAST_CLOSENESS,
+        ),
+        fitting_wide(
+            "1,001 entries at closeness 20: ground 11",
+            &full(1_001, 65),
+            20,
+        ),
+        fitting_wide(
+            "1,001 colours that a higher closeness joins",
+            &full(1_001, 10),
+            9,
+        ),
+        wide(short, full(1_001, 1).concat(), LEAST_CLOSENESS, 1_000),
     ]
 }
 

@@ -5,6 +5,7 @@ mod denominators;
 pub mod fits;
 pub mod grounds;
 pub mod histograms;
+pub mod labels;
 pub mod logs;
 pub mod modes;
 pub mod pixels;
@@ -44,7 +45,14 @@ fn unwritten_log(numbers: usize) -> Vec<i64> {
     (0..numbers).map(number).collect()
 }
 
-/// Labels as lent, alike.
-fn unwritten_labels(places: usize) -> Vec<u8> {
-    (0..places).map(|place| 207 - (place % 7) as u8).collect()
+/// Labels as lent, alike, each of which fits one byte.
+fn unwritten_labels(places: usize) -> Vec<u16> {
+    (0..places).map(|place| 207 - (place % 7) as u16).collect()
+}
+
+/// The same, none of which fits one byte or has a byte of 0: a label of which only one byte is written shows.
+fn unwritten_wide_labels(places: usize) -> Vec<u16> {
+    const BOTH_BYTES: u16 = 0x0101;
+    let label = |place: usize| u16::MAX - BOTH_BYTES * (place % 7) as u16;
+    (0..places).map(label).collect()
 }

@@ -196,20 +196,27 @@ fn lengths() -> Vec<Case> {
     ]
 }
 
-/// Ground 11, with ten pixels for each entry; 254, 255 and 256 entries are stored.
+/// With ten pixels for each entry; others, on both sides of both limits, are stored.
 fn entry_counts() -> Vec<Case> {
-    let one = |entries: usize| {
+    let one = |(what, entries): (&str, usize)| {
         let colours = full_cards::colours(entries);
         let pixels = colours
             .into_iter()
             .flat_map(|colour| [colour; 10])
             .collect();
-        text(
-            format!("{entries} entries: ground 11"),
-            Swatch::row(pixels).text(),
-        )
+        text(what, Swatch::row(pixels).text())
     };
-    [257, full_cards::MOST].map(one).into()
+    [
+        ("257 entries", 257),
+        ("262 entries", 262),
+        ("1,002 entries: ground 11", 1_002),
+        (
+            "1,025 entries, which are 1 in 8 bits and in 10: ground 11",
+            1_025,
+        ),
+    ]
+    .map(one)
+    .into()
 }
 
 /// Small swatches, whole and damaged.
