@@ -346,6 +346,16 @@ static bool same_bytes(const struct reader *reader, const struct field *kept, co
     return true;
 }
 
+static bool same_labels(const struct reader *reader, const struct field *kept, const uint16_t *found, size_t places)
+{
+    for (size_t place = 0; place < places; place++) {
+        if (!same(reader, kept->name, place, kept_or_zero(kept, place), found[place])) {
+            return false;
+        }
+    }
+    return true;
+}
+
 static bool same_numbers(const struct reader *reader, const struct field *kept, const int64_t *found, size_t places)
 {
     for (size_t place = 0; place < places; place++) {
@@ -372,6 +382,14 @@ static uint8_t *bytes_of(const struct field *field, uint8_t *bytes)
         bytes[place] = (uint8_t)field->values[place];
     }
     return bytes;
+}
+
+static uint16_t *labels_of(const struct field *field, uint16_t *labels)
+{
+    for (size_t place = 0; place < field->count; place++) {
+        labels[place] = (uint16_t)field->values[place];
+    }
+    return labels;
 }
 
 static int64_t *numbers_of(const struct field *field, int64_t *numbers)
@@ -552,14 +570,32 @@ static bool card_holds(const struct reader *reader, size_t *cases)
     const struct field *labels = field_at(reader, 2, "labels");
     uint8_t *bytes = bytes_of(pixels, allocate(pixels->count));
     struct lent lent;
-    uint8_t *places = bytes_of(labels, lend(&lent, labels->count));
+    uint16_t *places = labels_of(labels, lend(&lent, labels->count * sizeof *places));
     struct kistrovu_card found = kistrovu_card(bytes, pixels->count, closeness, places, labels->count);
     size_t figures = ENTRY * (size_t)found.len;
     bool hold = same_value(reader, 3, "number", found.number)
         && same_value(reader, 4, "len", found.len)
         && same_entries(reader, list_of(reader, 5, "entry", figures), &found)
-        && same_bytes(reader, list_of(reader, 6, "labels_after", labels->count), places, labels->count)
+        && same_labels(reader, list_of(reader, 6, "labels_after", labels->count), places, labels->count)
         && same_bytes(reader, pixels, bytes, pixels->count);
+    hold &= take_back(reader, &lent);
+    free(bytes);
+    (*cases)++;
+    return hold;
+}
+
+/* The labels of one byte are lent for reading, the others for writing. */
+static bool widen_labels_holds(const struct reader *reader, size_t *cases)
+{
+    const struct field *narrow = field_at(reader, 0, "narrow");
+    const struct field *labels = field_at(reader, 1, "labels");
+    uint8_t *bytes = bytes_of(narrow, allocate(narrow->count));
+    struct lent lent;
+    uint16_t *places = labels_of(labels, lend(&lent, labels->count * sizeof *places));
+    uint32_t found = kistrovu_widen_labels(bytes, narrow->count, places, labels->count);
+    bool hold = same_value(reader, 2, "number", found)
+        && same_labels(reader, list_of(reader, 3, "labels_after", labels->count), places, labels->count)
+        && same_bytes(reader, narrow, bytes, narrow->count);
     hold &= take_back(reader, &lent);
     free(bytes);
     (*cases)++;
@@ -644,6 +680,7 @@ static const struct {
     {"join_log", join_log_holds, 6},
     {"replay", replay_holds, 7},
     {"card", card_holds, 7},
+    {"widen_labels", widen_labels_holds, 4},
     {"print_card", print_card_holds, 4},
     {"print_ground", print_ground_holds, 4},
 };

@@ -1,0 +1,20 @@
+/*
+ * What wrong engines of labels share. Each is linked with --wrap=kistrovu_card or --wrap=kistrovu_widen_labels, which leads
+ * the calls to its own; the engine's has the name __real_kistrovu_card or __real_kistrovu_widen_labels there.
+ */
+#ifndef LABELS_H
+#define LABELS_H
+
+#include "kistrovu.h"
+
+enum { LOW_BYTE = 0xff, HIGH_BYTE = 0xff00 };
+
+struct kistrovu_card __real_kistrovu_card(const uint8_t *pixels, size_t bytes, int32_t closeness, uint16_t *labels,
+                                          size_t places);
+struct kistrovu_card __wrap_kistrovu_card(const uint8_t *pixels, size_t bytes, int32_t closeness, uint16_t *labels,
+                                          size_t places);
+
+uint32_t __real_kistrovu_widen_labels(const uint8_t *narrow, size_t count, uint16_t *labels, size_t places);
+uint32_t __wrap_kistrovu_widen_labels(const uint8_t *narrow, size_t count, uint16_t *labels, size_t places);
+
+#endif
