@@ -308,7 +308,7 @@ fn each_way_of_looking_at_less_is_shown() {
     }
 }
 
-/// The labels that a call is lent and those that it leaves, of the calls that are served, and how many labels a card has.
+/// The labels that a served call is lent, and those that it leaves.
 struct Labels {
     lent: Vec<i64>,
     left: Vec<i64>,
@@ -341,8 +341,9 @@ fn each_way_of_writing_less_than_a_label_is_shown() {
         };
         labels(name).iter().filter(|labels| differs(labels)).count()
     };
-    for (name, least_cut) in [("card", 6), ("widen_labels", 0)] {
-        assert!(shown(name, |_, label| label & 0xff) >= least_cut, "{name}");
+    // A label that was one byte is never more than that.
+    assert!(shown("card", |_, label| label & 0xff) >= 4);
+    for name in ["card", "widen_labels"] {
         let low = |lent: i64, label: i64| (lent & 0xff00) | (label & 0xff);
         assert!(shown(name, low) >= 4, "{name}");
         let high = |lent: i64, label: i64| (label & 0xff00) | (lent & 0xff);
