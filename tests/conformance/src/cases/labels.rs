@@ -26,6 +26,11 @@ fn case(what: impl Into<String>, narrow: Vec<u8>, places: usize) -> Case {
     lent(what, narrow, unwritten_wide_labels(places))
 }
 
+/// So many labels: these, over and over.
+fn over_and_over(labels: &[u8], count: usize) -> Vec<u8> {
+    labels.iter().copied().cycle().take(count).collect()
+}
+
 /// With as many places as labels.
 fn fitting(what: impl Into<String>, narrow: Vec<u8>) -> Case {
     let places = narrow.len();
@@ -87,7 +92,7 @@ fn lengths() -> Vec<Case> {
             all.push(fitting(format!("{count} labels"), narrow));
         }
     }
-    let many = |count: usize| [7, 255, 0, 128].repeat(count)[..count].to_vec();
+    let many = |count: usize| over_and_over(&[7, 255, 0, 128], count);
     all.extend([
         fitting("65,535 labels", many(MOST - 1)),
         fitting(
@@ -160,7 +165,7 @@ fn other_lengths() -> Vec<Case> {
             5,
         ),
     ]
-    .map(|(what, count, places)| case(what, vec![6; count], places))
+    .map(|(what, count, places)| case(what, over_and_over(&[1, 2, 3], count), places))
     .into()
 }
 
