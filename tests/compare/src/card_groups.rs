@@ -104,7 +104,7 @@ const LEAST_OF_1_391: EntryCounts = EntryCounts::of([0, 30, 15, 5, 30]);
 // The other numbers are well below what the run without arguments has, so that another seed does not fall below by chance.
 const LEAST_AROUND_255: EntryCounts = EntryCounts::of([15, 5, 0, 0, 0]);
 const LEAST_AROUND_1_000: EntryCounts = EntryCounts::of([0, 10, 10, 0, 10]);
-const LEAST_OF_NOISE: EntryCounts = EntryCounts::of([0, 15, 10, 0, 3]);
+const LEAST_OF_NOISE: EntryCounts = EntryCounts::of([0, 15, 10, 0, 5]);
 const LEAST_OF_ANY_NUMBER: EntryCounts = EntryCounts::of([3, 15, 5, 0, 5]);
 
 impl CardSource {
@@ -354,8 +354,8 @@ fn around(random: &mut Random, fewest: u32, most: u32) -> Vec<CardCase> {
 fn noise_of_many_entries(random: &mut Random) -> Vec<CardCase> {
     (0..50)
         .map(|_| {
-            let count = random.within(200, 2_400) as usize;
-            let closeness = random.signed_within(LEAST_CLOSENESS, LEAST_CLOSENESS + 2);
+            let count = random.within(200, 3_200) as usize;
+            let closeness = random.signed_within(LEAST_CLOSENESS, LEAST_CLOSENESS + 1);
             fitting(&card_shapes::noise(random, count), closeness)
         })
         .collect()
