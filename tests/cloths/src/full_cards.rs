@@ -97,7 +97,7 @@ mod tests {
     #[test]
     fn ten_pixels_for_each_entry_are_enough() {
         for entries in [
-            1, 100, 254, 255, 256, 257, 262, 263, 652, 653, 999, 1_000, 1_001, MOST,
+            1, 100, 254, 255, 256, 257, 262, 263, 512, 513, 999, 1_000, 1_001, MOST,
         ] {
             assert_eq!(card(&pixels(entries, 10), 0).entries.len(), entries);
         }

@@ -297,7 +297,7 @@ fn narrow_limit(_: &mut Random) -> Vec<CardCase> {
 fn limit(_: &mut Random) -> Vec<CardCase> {
     let most = full_cards::MOST;
     full([
-        511, 512, 652, 653, 999, 1_000, 1_001, 1_002, 1_024, 1_025, 1_256, most,
+        511, 512, 513, 768, 999, 1_000, 1_001, 1_002, 1_024, 1_025, 1_256, most,
     ])
 }
 

@@ -5,8 +5,8 @@
 use crate::least::Named;
 use reference::calls::{MOST_ENTRIES, MOST_NARROW_ENTRIES, TOO_MANY_ENTRIES};
 
-/// A table inside the engine once had this many places. A card may have more entries.
-const OLD_TABLE: usize = 652;
+/// The most entries whose labels have nine bits. Labels of a full card have ten.
+const NINE_BITS: usize = 1 << 9;
 
 /// Cards by their entries: how many were found, or how many there have to be.
 #[derive(Clone, Copy, Debug, Default, PartialEq, Eq)]
@@ -15,8 +15,8 @@ pub struct EntryCounts {
     pub narrow: u64,
     /// Served, with more than that.
     pub wide: u64,
-    /// Served, with more than the old table.
-    pub above_table: u64,
+    /// Served, with labels of ten bits.
+    pub ten_bits: u64,
     /// Served, with exactly as many as a card may hold.
     pub full: u64,
     /// Turned down with 11.
@@ -26,11 +26,11 @@ pub struct EntryCounts {
 impl EntryCounts {
     /// In the order of the fields.
     pub const fn of(numbers: [u64; 5]) -> Self {
-        let [narrow, wide, above_table, full, too_many] = numbers;
+        let [narrow, wide, ten_bits, full, too_many] = numbers;
         EntryCounts {
             narrow,
             wide,
-            above_table,
+            ten_bits,
             full,
             too_many,
         }
@@ -41,7 +41,7 @@ impl EntryCounts {
         let served = |holds: bool| u64::from(number == 0 && holds);
         self.narrow += served(entries <= MOST_NARROW_ENTRIES);
         self.wide += served(entries > MOST_NARROW_ENTRIES);
-        self.above_table += served(entries > OLD_TABLE);
+        self.ten_bits += served(entries > NINE_BITS);
         self.full += served(entries == MOST_ENTRIES);
         self.too_many += u64::from(number == TOO_MANY_ENTRIES);
     }
@@ -50,7 +50,7 @@ impl EntryCounts {
         [
             ("of up to 255 entries", self.narrow),
             ("of more", self.wide),
-            ("of more than 652", self.above_table),
+            ("of more than 512", self.ten_bits),
             ("of 1,000", self.full),
             ("turned down with 11", self.too_many),
         ]
@@ -64,7 +64,7 @@ mod tests {
     #[test]
     fn cards_are_counted_by_their_entries() {
         let mut found = EntryCounts::default();
-        for entries in [1, 255, 256, 652, 653, 999, 1_000, 1_000] {
+        for entries in [1, 255, 256, 512, 513, 999, 1_000, 1_000] {
             found.count(0, entries);
         }
         found.count(11, 0);
