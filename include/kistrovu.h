@@ -30,17 +30,17 @@
  *     a pointer is aligned for its type and not null, even if the length is 0;
  *   - a buffer that is written does not overlap another argument;
  *   - a bool is 0 or 1;
- *   - the library is of the header's major version. Up to version 5 a label was one byte. A program compiled with such a
- *     header and linked with this library would lend a byte for each label to a call that writes two bytes for each, and no
- *     number would show it. Only the version does, so compare it at the start of the program:
+ *   - the library is of the header's major version. A program compiled with the header of version 5 and linked with this
+ *     library has too little room for what the calls write: a label was one byte then, and the answers with a card or with
+ *     a text were smaller. No number would show it. Only the version does, so compare it at the start of the program:
  *
  *     if (kistrovu_version() / 10000 != KISTROVU_VERSION_MAJOR)
  *         return 1;
  *
  * No call uses the heap, keeps state or touches anything but its arguments, so calls may run on many threads at once.
  * Stack, as measured: kistrovu_card takes up to 407 KB, kistrovu_print_card up to 259 KB; every other call takes less
- * than 20 KB. The answer is handed back by value, in memory of the caller; its size is given below. Give a thread that
- * makes cards 1 MB.
+ * than 20 KB. That is without the answer, which is handed back by value, in memory of the caller; its size is given below.
+ * Give a thread that makes cards 1 MB.
  *
  * In C++ a call hides the struct of the same name, so write `struct kistrovu_card card`, as in C.
  *
@@ -232,9 +232,13 @@ struct kistrovu_modes_answer kistrovu_replay(const uint32_t *histogram, size_t b
  * 0; there are as many labels as pixels. The first len places of entries hold the card: greys by mode, then colours by hue,
  * saturation and intensity mode. The rest are zero.
  *
- * places counts labels, not bytes. Up to version 5, when a label was one byte, `sizeof labels` was their number; now it is
- * twice their number, so a caller who still passes it gets 9, and nothing is written. Labels are numbers in memory, and there
- * is no format for files of them: whoever stores them chooses the order of a label's two bytes. */
+ * Up to version 5 a label was one byte, so a buffer for labels of that time has half the room that is needed now: change it
+ * first. If it is passed as it was, a compiler may do no more than warn of its type, and a call that is served writes past
+ * its end; with -Werror=incompatible-pointer-types it does not compile. places counts labels, not bytes: `sizeof labels` is
+ * twice as much, and a caller who passes that gets 9, and nothing is written.
+ *
+ * Labels are numbers in memory, and there is no format for files of them: whoever stores them chooses the order of a
+ * label's two bytes. */
 
 struct kistrovu_entry {
     uint8_t kind; /* 0 grey, 1 colour */

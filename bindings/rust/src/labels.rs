@@ -6,13 +6,14 @@ use crate::Ground;
 use alloc::{vec, vec::Vec};
 
 /// Labels of one byte each, as cards had them up to version 5 and as they may have been stored, widened to labels of 16
-/// bits: each number unchanged, in the same place. Any byte is a label, and a list may have any length. The list is made
-/// to measure, so the call is always served.
+/// bits: each number unchanged, in the same place. Any byte is a label, and a list may have any length. The new list is
+/// made as long as the old one, so the library always serves the call.
 ///
 /// ```
-/// # use kistrovu::widen_labels;
-/// assert_eq!(widen_labels(&[0, 1, 1, 254, 255]), [0, 1, 1, 254, 255]);
-/// assert_eq!(widen_labels(&[]), []);
+/// # use kistrovu::{widen_labels, Ground};
+/// assert_eq!(widen_labels(&[0, 1, 1, 254, 255])?, [0, 1, 1, 254, 255]);
+/// assert_eq!(widen_labels(&[])?, []);
+/// # Ok::<(), Ground>(())
 /// ```
 ///
 /// A cloth that had a card in version 5, of up to 255 entries, has the labels that it had then:
@@ -21,14 +22,14 @@ use alloc::{vec, vec::Vec};
 /// # use kistrovu::{card, widen_labels, Ground};
 /// let stored: [u8; 2] = [0, 1];
 /// let black_beside_red = [0, 0, 0, 255, 0, 0];
-/// assert_eq!(card(&black_beside_red, 0)?.labels, widen_labels(&stored));
+/// assert_eq!(card(&black_beside_red, 0)?.labels, widen_labels(&stored)?);
 /// # Ok::<(), Ground>(())
 /// ```
 #[cfg(feature = "alloc")]
-pub fn widen_labels(narrow: &[u8]) -> Vec<u16> {
+pub fn widen_labels(narrow: &[u8]) -> Result<Vec<u16>, Ground> {
     let mut labels = vec![0; narrow.len()];
-    let served = widen_labels_into(narrow, &mut labels);
-    written(served, labels)
+    widen_labels_into(narrow, &mut labels)?;
+    Ok(labels)
 }
 
 /// Like [`widen_labels`], without a heap: the labels are written into a list of the same length. They stay as they were if
@@ -52,24 +53,4 @@ pub fn widen_labels_into(narrow: &[u8], labels: &mut [u16]) -> Result<(), Ground
     // SAFETY: each pointer and its length are those of one slice, lent for the time of the call; the two slices do not
     // overlap, and the pointer of an empty slice is not null.
     Ground::check(unsafe { raw::kistrovu_widen_labels(start, count, list, places) })
-}
-
-/// The labels, if they were written. A call that is turned down has written none.
-#[cfg(feature = "alloc")]
-fn written(served: Result<(), Ground>, labels: Vec<u16>) -> Vec<u16> {
-    served.map_or(Vec::new(), |()| labels)
-}
-
-/// How the wrapper treats a number that the engine never hands back for two lists of one length.
-#[cfg(all(test, feature = "alloc"))]
-mod tests {
-    use super::*;
-
-    #[test]
-    fn labels_that_were_not_written_are_not_handed_on() {
-        assert_eq!(written(Ok(()), vec![0, 7]), [0, 7]);
-        for ground in [Ground::Labels, Ground::Unlisted] {
-            assert_eq!(written(Err(ground), vec![0, 7]), []);
-        }
-    }
 }

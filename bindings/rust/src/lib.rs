@@ -43,9 +43,10 @@
 //!
 //! # Stack, heap and threads
 //!
-//! The engine keeps everything on the stack: a card call takes up to 407 KB of it, [`print_card`] up to 259 KB, whatever the
-//! image, every other call less than 20 KB. **A thread that makes cards needs 1 MB.** Threads of the standard library
-//! have 2 MB by default. The engine keeps no state, so calls may run on many threads at once.
+//! The engine keeps everything on the stack, and hands its answers back by value. Whatever the image, a thread of 512 KB
+//! is enough for [`card`], one of 448 KB for [`print_card`], one of 192 KB for [`print_ground`], and one of 64 KB for every
+//! other call. **Give a thread that makes cards 1 MB.** Threads of the standard library have 2 MB by default. The engine
+//! keeps no state, so calls may run on many threads at once.
 //!
 //! Only the calls that hand back a `Vec` ([`card`], [`widen_labels`], [`line_modes`], [`ring_modes`], [`join_log`],
 //! [`replay`]) use the heap; without the feature `alloc`, which is on by default, they are left out. The crate does not

@@ -8,8 +8,8 @@
 //! # Safety
 //!
 //! A pointer and the length after it must stand for that many places, which the call may read, and also write if the
-//! pointer is `*mut`. The pointer must be aligned for its type and not null, even if the length is 0. What is written must not overlap another
-//! argument. Nothing else is required: every call is served or turned down, whatever the figures are.
+//! pointer is `*mut`. The pointer must be aligned for its type and not null, even if the length is 0. What is written must
+//! not overlap another argument. Nothing else is required: every call is served or turned down, whatever the figures are.
 
 /// The most bins of a histogram, and so the places of a fit.
 pub const MOST_BINS: usize = 256;

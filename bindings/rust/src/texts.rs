@@ -7,14 +7,13 @@ use core::fmt;
 /// A text to print: a card, or the line of a ground.
 #[derive(Clone, Copy, PartialEq, Eq)]
 pub struct Printed {
-    len: usize,
-    bytes: [u8; MOST_PRINTED],
+    answer: raw::Printed,
 }
 
 impl Printed {
     /// Its bytes: lines that end with a line feed.
     pub fn bytes(&self) -> &[u8] {
-        &self.bytes[..self.len]
+        &self.answer.bytes[..MOST_PRINTED.min(self.answer.len as usize)]
     }
 }
 
@@ -59,7 +58,7 @@ pub fn print_card(text: &[u8]) -> Result<Printed, Ground> {
     // SAFETY: pointer and length are those of one slice, lent for the time of the call. The pointer of an empty slice is
     // not null.
     let answer = unsafe { raw::kistrovu_print_card(text.as_ptr(), text.len()) };
-    read(&answer)
+    read(answer)
 }
 
 /// The line that the card program prints for a swatch that is turned down: the number of the ground in 6 columns, and a
@@ -75,19 +74,12 @@ pub fn print_card(text: &[u8]) -> Result<Printed, Ground> {
 pub fn print_ground(number: u32) -> Printed {
     // SAFETY: the call takes and hands back plain numbers.
     let answer = unsafe { raw::kistrovu_print_ground(number) };
-    printed(&answer)
+    Printed { answer }
 }
 
-fn read(answer: &raw::Printed) -> Result<Printed, Ground> {
+fn read(answer: raw::Printed) -> Result<Printed, Ground> {
     Ground::check(answer.number)?;
-    Ok(printed(answer))
-}
-
-fn printed(answer: &raw::Printed) -> Printed {
-    Printed {
-        len: MOST_PRINTED.min(answer.len as usize),
-        bytes: answer.bytes,
-    }
+    Ok(Printed { answer })
 }
 
 /// How the wrapper treats figures that the engine never hands back.
@@ -112,14 +104,14 @@ mod tests {
             (49_020, 49_019),
             (u32::MAX, 49_019),
         ] {
-            let printed = read(&answer(0, len)).unwrap();
+            let printed = read(answer(0, len)).unwrap();
             assert_eq!(printed.bytes().len(), expected);
         }
     }
 
     #[test]
     fn a_number_that_is_not_listed_is_a_ground() {
-        assert_eq!(read(&answer(12, 7)), Err(Ground::Unlisted));
+        assert_eq!(read(answer(12, 7)), Err(Ground::Unlisted));
     }
 
     #[test]

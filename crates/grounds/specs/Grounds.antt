@@ -1,7 +1,7 @@
 -- The grounds for turning a call down, rules G1 to G11 and G20, and which of them concern a call (A2). A call answers with the number of the first that holds, or 0. Assumes nothing.
 use Prim.Native.Nat.{ℕ, _/_, _%_}
 use mathlib.Core.Bool.{Bool, cond, not, _||_}
-use mathlib.Core.List.{List, [], _∷_}
+use mathlib.Core.List.{List, [], _∷_, _++_}
 use lib.Dec.{ltb, eqb}
 use lib.IntN.{ℤ, pos}
 use lib.ListN.{length}
@@ -63,9 +63,9 @@ badLabels labels places = record { number = 9; holds = not (eqb places labels) }
 abbrev pub fewPlaces : List ℕ → ℕ → Ground
 fewPlaces h places = record { number = 10; holds = ltb places (length h) }
 
--- G11: too many entries
-abbrev pub manyEntries : Closeness → List ℕ → Ground
-manyEntries e bytes = record { number = 11; holds = ltb mostEntries (length (entries e (pixelsOf bytes))) }
+-- G11: more entries than a card may hold, where `most` is the most
+abbrev pub manyEntries : (most : ℕ) → Closeness → List ℕ → Ground
+manyEntries most e bytes = record { number = 11; holds = ltb most (length (entries e (pixelsOf bytes))) }
 
 -- G20: another log than that of the line
 abbrev pub otherLog : Closeness → List ℕ → List ℤ → Ground
@@ -90,12 +90,16 @@ logNumber e h numbers = firstGround (badLength h ∷ largeSum h ∷ badCloseness
 unfoldable pub replayNumber : Closeness → List ℕ → List ℤ → (places : ℕ) → ℕ
 replayNumber e h log places = firstGround (badLength h ∷ largeSum h ∷ badCloseness e ∷ fewPlaces h places ∷ otherLog e h log ∷ [])
 
--- the number of a card call: as far as it is known before the entries are found, and with them
+-- the grounds of a card call that are tested before the entries are found
+abbrev pub askedGrounds : Closeness → List ℕ → ℕ → List Ground
+askedGrounds e bytes places = badBytes bytes ∷ manyPixels bytes ∷ badCloseness e ∷ badLabels (length bytes / 3) places ∷ []
+
+-- the number of a card call: as far as it is known then, and with the entries
 unfoldable pub askedNumber : Closeness → List ℕ → ℕ → ℕ
-askedNumber e bytes places = firstGround (badBytes bytes ∷ manyPixels bytes ∷ badCloseness e ∷ badLabels (length bytes / 3) places ∷ [])
+askedNumber e bytes places = firstGround (askedGrounds e bytes places)
 
 unfoldable pub cardNumber : Closeness → List ℕ → ℕ → ℕ
-cardNumber e bytes places = firstGround (badBytes bytes ∷ manyPixels bytes ∷ badCloseness e ∷ badLabels (length bytes / 3) places ∷ manyEntries e bytes ∷ [])
+cardNumber e bytes places = firstGround (askedGrounds e bytes places ++ (manyEntries mostEntries e bytes ∷ []))
 
 -- the number of a widening: a label for each byte
 unfoldable pub widenNumber : List ℕ → ℕ → ℕ
@@ -105,6 +109,9 @@ widenNumber narrow places = firstGround (badLabels (length narrow) places ∷ []
 unfoldable pub programCloseness : ℕ
 programCloseness = 0
 
--- the number of the text of a swatch
+-- the grounds of reading the text of a swatch; its number
+abbrev pub readGrounds : List ℕ → List Ground
+readGrounds text = noHeader text ∷ wrongSize text ∷ badLines text ∷ []
+
 unfoldable pub textNumber : List ℕ → ℕ
-textNumber text = firstGround (noHeader text ∷ wrongSize text ∷ badLines text ∷ manyEntries (pos programCloseness) (bytesOf text) ∷ [])
+textNumber text = firstGround (readGrounds text ++ (manyEntries mostEntries (pos programCloseness) (bytesOf text) ∷ []))

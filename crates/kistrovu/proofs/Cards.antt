@@ -20,7 +20,7 @@ use Rattle.palette.proofs.Always.{always-sound}
 use Rattle.palette.proofs.Triples.{pixels-length, pixels-bytes}
 use Rattle.making.specs.Making.{cardEntries, labelsLeft}
 use Rattle.kistrovu.specs.declared.Card.{Card}
-use Rattle.grounds.specs.Grounds.{firstGround, badBytes, manyPixels, badCloseness, badLabels, manyEntries, askedNumber, cardNumber, widenNumber}
+use Rattle.grounds.specs.Grounds.{firstGround, badBytes, manyPixels, badCloseness, badLabels, manyEntries, askedGrounds, askedNumber, cardNumber, widenNumber}
 use Rattle.kistrovu.specs.Answers.{servedEntries, cardAnswer, labelList, widenedList}
 use Rattle.kistrovu.specs.Facts.{SoundAnswer, CardAgain}
 use Rattle.grounds.proofs.Served.{closeness-offered, ground-none, grounds-served, grounds-turned-down}
@@ -37,21 +37,20 @@ pub record Asked (e : Closeness) (bytes : List ℕ) (places : ℕ) : Type 0 wher
 module _ (e : Closeness) (bytes : List ℕ) (places : ℕ) where
   pub card-turned-down : ¬ (askedNumber e bytes places ≡ 0) → cardNumber e bytes places ≡ askedNumber e bytes places
   unfolding askedNumber cardNumber
-  card-turned-down n = grounds-turned-down (badBytes bytes ∷ manyPixels bytes ∷ badCloseness e ∷ badLabels (length bytes / 3) places ∷ []) (manyEntries e bytes ∷ []) n
+  card-turned-down n = grounds-turned-down (askedGrounds e bytes places) (manyEntries mostEntries e bytes ∷ []) n
 
-  pub card-asked : askedNumber e bytes places ≡ 0 → cardNumber e bytes places ≡ firstGround (manyEntries e bytes ∷ [])
+  pub card-asked : askedNumber e bytes places ≡ 0 → cardNumber e bytes places ≡ firstGround (manyEntries mostEntries e bytes ∷ [])
   unfolding askedNumber cardNumber
-  card-asked z =
-      grounds-served (badBytes bytes ∷ manyPixels bytes ∷ badCloseness e ∷ badLabels (length bytes / 3) places ∷ []) (manyEntries e bytes ∷ [])
-      (omega arith, (omega arith, (omega arith, (omega arith, tt)))) z
+  card-asked z = grounds-served (askedGrounds e bytes places) (manyEntries mostEntries e bytes ∷ []) (omega arith, (omega arith, (omega arith, (omega arith, tt)))) z
 
   pub asked-none : askedNumber e bytes places ≡ 0 → Asked e bytes places
   unfolding askedNumber
   asked-none z =
-      let a = ground-none (badBytes bytes) (manyPixels bytes ∷ badCloseness e ∷ badLabels (length bytes / 3) places ∷ []) (omega arith) z in
-      let b = ground-none (manyPixels bytes) (badCloseness e ∷ badLabels (length bytes / 3) places ∷ []) (omega arith) (a .1) in
-      let c = ground-none (badCloseness e) (badLabels (length bytes / 3) places ∷ []) (omega arith) (b .1) in
-      let d = ground-none (badLabels (length bytes / 3) places) [] (omega arith) (c .1) in
+      let nine = badLabels (length bytes / 3) places in
+      let a = ground-none (badBytes bytes) (manyPixels bytes ∷ badCloseness e ∷ nine ∷ []) (omega arith) z in
+      let b = ground-none (manyPixels bytes) (badCloseness e ∷ nine ∷ []) (omega arith) (a .1) in
+      let c = ground-none (badCloseness e) (nine ∷ []) (omega arith) (b .1) in
+      let d = ground-none nine [] (omega arith) (c .1) in
       let rest = ltb-false 0 (length bytes % 3) (both-false (eqb (length bytes) 0) (ltb 0 (length bytes % 3)) (a .0) .1) in
       let same : places ≡ length bytes / 3 = eqb-true places (length bytes / 3) (was-true (eqb places (length bytes / 3)) (d .0)) in
       record {

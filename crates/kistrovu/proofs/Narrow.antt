@@ -1,5 +1,5 @@
 -- A lower limit on entries changes no card and no text that keeps to it, and widening its labels gives the labels: rule C10. Assumes nothing.
-use Prim.Native.Nat.{ℕ, _/_, _≤_, _<_, _^_}
+use Prim.Native.Nat.{ℕ, _≤_, _<_, _^_}
 use mathlib.Core.Path.{_≡_, refl, sym, ap, _∙_}
 use mathlib.Core.Bool.{true}
 use mathlib.Core.List.{List, [], _∷_, map}
@@ -20,12 +20,12 @@ use Rattle.palette.specs.declared.Entry.{Entry}
 use Rattle.palette.specs.Cards.{Branch, pixelsOf, branches, entryOf, entries, label, labels, mostEntries, noEntry}
 use Rattle.palette.proofs.Triples.{pixels-length}
 use Rattle.swatch.specs.Input.{bytesOf}
-use Rattle.swatch.specs.Output.{printedCard, printedMost}
+use Rattle.swatch.specs.Output.{printedCard, bytesFor, printedMost}
 use Rattle.swatch.proofs.PrintedLengths.{printed-length}
-use Rattle.grounds.specs.Grounds.{Ground, firstGround, noHeader, wrongSize, badLines, badBytes, manyPixels, badCloseness, badLabels, manyEntries, askedNumber, cardNumber, widenNumber, programCloseness, textNumber}
+use Rattle.grounds.specs.Grounds.{Ground, firstGround, manyEntries, askedGrounds, askedNumber, cardNumber, widenNumber, programCloseness, readGrounds, textNumber}
 use Rattle.grounds.proofs.Served.{last-none, last-kept}
 use Rattle.kistrovu.specs.Answers.{served, servedEntries, cardAnswer, labelList, widenedList, printed, printedAnswer}
-use Rattle.kistrovu.specs.Narrow.{manyAbove, cardNumberUpTo, cardUpTo, labelsUpTo, textNumberUpTo, roomUpTo, printedUpTo, OwnLimit, mostByteEntries, CardsKept, LabelsNarrow, TextsKept}
+use Rattle.kistrovu.specs.Narrow.{cardNumberUpTo, cardUpTo, labelsUpTo, textNumberUpTo, printedUpTo, OwnLimit, CardAlwaysKept, TextAlwaysKept, mostByteEntries, LabelsAlwaysNarrow}
 use Rattle.kistrovu.proofs.Cards.{card-turned-down, asked-none}
 
 pub own-limit : OwnLimit
@@ -42,22 +42,22 @@ module _ (e : Closeness) (bytes list : List ℕ) where
   found = entries e (pixelsOf bytes)
 
   abbrev asked : List Ground
-  asked = badBytes bytes ∷ manyPixels bytes ∷ badCloseness e ∷ badLabels (length bytes / 3) (length list) ∷ []
+  asked = askedGrounds e bytes (length list)
 
   card-number-kept : (few : ℕ) → few ≤ mostEntries → ¬ (cardNumberUpTo few e bytes (length list) ≡ 11) → cardNumber e bytes (length list) ≡ cardNumberUpTo few e bytes (length list)
   unfolding cardNumberUpTo cardNumber
-  card-number-kept few low n = last-kept asked (manyAbove few e bytes) (manyEntries e bytes) (above few low (length found)) n
+  card-number-kept few low n = last-kept asked (manyEntries few e bytes) (manyEntries mostEntries e bytes) (above few low (length found)) n
 
   -- a card that is served keeps to the limit
   card-few : (most : ℕ) → cardNumberUpTo most e bytes (length list) ≡ 0 → length found ≤ most
   unfolding cardNumberUpTo
-  card-few most z = ltb-false most (length found) (last-none asked (manyAbove most e bytes) (omega arith, (omega arith, (omega arith, (omega arith, (omega arith, tt))))) z)
+  card-few most z = ltb-false most (length found) (last-none asked (manyEntries most e bytes) (omega arith, (omega arith, (omega arith, (omega arith, (omega arith, tt))))) z)
 
   served-few : (most : ℕ) → length (served (cardNumberUpTo most e bytes (length list)) found []) ≤ most
   served-few most =
       by-cond (λ (xs : List Entry). length xs ≤ most) (eqb (cardNumberUpTo most e bytes (length list)) 0) found [] (λ q. card-few most (eqb-true _ 0 q)) (λ q. omega arith)
 
-pub cards-kept : CardsKept
+pub cards-kept : CardAlwaysKept
 unfolding cardUpTo cardAnswer servedEntries labelsUpTo labelList
 cards-kept few low e bytes list n =
     let same = card-number-kept e bytes list few low n in
@@ -102,7 +102,7 @@ byte-below-most : mostByteEntries ≤ mostEntries
 unfolding mostEntries
 byte-below-most = omega arith
 
-pub labels-narrow : LabelsNarrow
+pub labels-narrow : LabelsAlwaysNarrow
 unfolding labelsUpTo
 labels-narrow e bytes list z =
     let kept = card-number-kept e bytes list mostByteEntries byte-below-most (λ q. absurd (omega (arith, z, q))) in
@@ -122,29 +122,26 @@ module _ (text : List ℕ) where
   abbrev card : List ℕ
   card = printedCard (length ps) programCloseness es
 
-  abbrev read : List Ground
-  read = noHeader text ∷ wrongSize text ∷ badLines text ∷ []
-
   text-number-kept : (few : ℕ) → few ≤ mostEntries → ¬ (textNumberUpTo few text ≡ 11) → textNumber text ≡ textNumberUpTo few text
   unfolding textNumberUpTo textNumber
-  text-number-kept few low n = last-kept read (manyAbove few (pos programCloseness) (bytesOf text)) (manyEntries (pos programCloseness) (bytesOf text)) (above few low (length es)) n
+  text-number-kept few low n = last-kept (readGrounds text) (manyEntries few (pos programCloseness) (bytesOf text)) (manyEntries mostEntries (pos programCloseness) (bytesOf text)) (above few low (length es)) n
 
   text-few : (most : ℕ) → textNumberUpTo most text ≡ 0 → length es ≤ most
   unfolding textNumberUpTo
-  text-few most z = ltb-false most (length es) (last-none read (manyAbove most (pos programCloseness) (bytesOf text)) (omega arith, (omega arith, (omega arith, (omega arith, tt)))) z)
+  text-few most z = ltb-false most (length es) (last-none (readGrounds text) (manyEntries most (pos programCloseness) (bytesOf text)) (omega arith, (omega arith, (omega arith, (omega arith, tt)))) z)
 
-  printed-few : (most : ℕ) → length (served (textNumberUpTo most text) card []) ≤ roomUpTo most
+  printed-few : (most : ℕ) → length (served (textNumberUpTo most text) card []) ≤ bytesFor most
   printed-few most =
-      by-cond (λ (xs : List ℕ). length xs ≤ roomUpTo most) (eqb (textNumberUpTo most text) 0) card []
+      by-cond (λ (xs : List ℕ). length xs ≤ bytesFor most) (eqb (textNumberUpTo most text) 0) card []
       (λ q. omega (arith, printed-length (length ps) programCloseness es, text-few most (eqb-true _ 0 q)))
       (λ q. omega arith)
 
-pub texts-kept : TextsKept
+pub texts-kept : TextAlwaysKept
 unfolding printedUpTo printedAnswer printed printedMost
 texts-kept few low text n =
     let same = text-number-kept text few low n in
     record {
       number = same;
       len = ap (λ (k : ℕ). length (served k (card text) [])) same;
-      bytes = ap (λ (k : ℕ). padded printedMost 0 (served k (card text) [])) same ∙ padded-more (roomUpTo few) printedMost 0 _ (printed-few text few) (omega (arith, low));
+      bytes = ap (λ (k : ℕ). padded printedMost 0 (served k (card text) [])) same ∙ padded-more (bytesFor few) printedMost 0 _ (printed-few text few) (omega (arith, low));
     }

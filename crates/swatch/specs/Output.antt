@@ -37,13 +37,17 @@ printedEntry t = printedLine (entryFigures t)
 unfoldable pub printedCard : ℕ → ℕ → List Entry → List ℕ
 printedCard pixels closeness es = printedLine (length es ∷ pixels ∷ closeness ∷ []) ++ flatMap printedEntry es
 
--- the most bytes printed: a line of 3 fields, and a line of 8 for each entry
-unfoldable pub printedMost : ℕ
-printedMost = 19 + 49 * mostEntries
+-- how many bytes a card of n entries has: a line of 3 fields, and a line of 8 for each entry
+abbrev pub bytesFor : ℕ → ℕ
+bytesFor n = 19 + 49 * n
 
--- how many bytes a printed card has; proved in proofs/PrintedLengths
+-- the most bytes printed
+unfoldable pub printedMost : ℕ
+printedMost = bytesFor mostEntries
+
+-- proved in proofs/PrintedLengths
 abbrev pub PrintedLength : Type 0
-PrintedLength = (pixels closeness : ℕ) (es : List Entry) → length (printedCard pixels closeness es) ≡ 19 + 49 * length es
+PrintedLength = (pixels closeness : ℕ) (es : List Entry) → length (printedCard pixels closeness es) ≡ bytesFor (length es)
 
 abbrev pub CardFits : Type 0
 CardFits = (pixels closeness : ℕ) (es : List Entry) → length es ≤ mostEntries → length (printedCard pixels closeness es) ≤ printedMost

@@ -157,7 +157,7 @@ fn pixels() -> Vec<Made> {
     texts
 }
 
-/// Ground 3 again: texts as long as the longest swatch; with more entries than labels of one byte can tell apart; and with
+/// Ground 3 again: texts as long as the longest swatch; with more entries than a card had with labels of one byte; and with
 /// more than a card may hold, where it comes before ground 11.
 fn long() -> Vec<Made> {
     let header = "   128   128\n";

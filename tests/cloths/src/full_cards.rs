@@ -1,6 +1,6 @@
-//! Swatches whose cards have as many entries as wanted, on both sides of the limit of 1,000 and of the 255 to which labels of
-//! one byte are limited: colours of far-apart hue, saturation and intensity bins, and greys of far-apart intensity bins.
-//! With enough pixels of each, nothing joins.
+//! Swatches whose cards have as many entries as wanted, on both sides of the limit of 1,000 and of the 255 that were
+//! the most with labels of one byte: colours of far-apart hue, saturation and intensity bins, and greys of far-apart
+//! intensity bins. With enough pixels of each, nothing joins.
 
 use reference::cards::Pixel;
 use reference::measures::measures;

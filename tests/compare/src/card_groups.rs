@@ -288,7 +288,7 @@ const ENOUGH: [(usize, i32); 5] = [
     (250, MOST_CLOSENESS),
 ];
 
-/// On both sides of the 255 entries to which labels of one byte are limited.
+/// On both sides of the 255 entries that were the most with labels of one byte.
 fn narrow_limit(_: &mut Random) -> Vec<CardCase> {
     full([254, 255, 256, 257])
 }

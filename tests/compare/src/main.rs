@@ -14,10 +14,10 @@
 //! round the ring, or for modes that are not in the order of bin numbers, also fails if it has too few of them, and so does
 //! a group of turned rings with too few on which a turn shows, and a group of logs with too few that show how joins are
 //! numbered, which way they are made or that a spoiled log is turned down. Groups of cards and texts made for many entries
-//! fail if too few have more than labels of one byte can tell apart, exactly the most or too many, and groups of widenings
-//! if too few are served or turned down. Every card of at most 255 entries is compared with the card under that limit as
-//! well, its labels of one byte widened by the engine. The last line is the number of groups passed and failed, and the
-//! exit code is 1 if one failed.
+//! fail if too few have more than 255, exactly the most or too many, and groups of widenings if too few are served or
+//! turned down. Every card of at most 255 entries is compared with the card under that limit as well, its labels of one
+//! byte widened by the engine. The last line is the number of groups passed and failed, and the exit code is 1 if one
+//! failed.
 
 use cloths::random::Random;
 use compare::card_groups::CARDS;

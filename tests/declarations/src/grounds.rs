@@ -31,7 +31,7 @@ const NUMBERS: [(&str, Option<&str>); 12] = [
 ];
 
 impl Grounds {
-    /// Reads the lines `- **GNUMBER** words.`, `name .. = record { number = NUMBER; ..` and `name .. = firstGround (..)`.
+    /// Reads the lines `- **GNUMBER** words.`, `name .. = record { number = NUMBER; ..` and the definitions of the numbers.
     pub fn read(text: &str) -> Result<Self, String> {
         let worded: Vec<(u64, String)> = text.lines().filter_map(worded).collect();
         let numbers: Vec<u64> = worded.iter().map(|(number, _)| *number).collect();
@@ -81,19 +81,26 @@ fn defined(line: &str) -> Option<(String, u64)> {
     Some((name.to_string(), number.parse().ok()?))
 }
 
-/// The grounds in the definition of a number.
+/// The grounds in the definition of a number, those of a list that it names among them.
 fn sequence(text: &str, name: &str, names: &BTreeMap<String, u64>) -> Result<Vec<u64>, String> {
-    let mut lines = text.lines().filter_map(|line| {
-        let (left, right) = line.split_once(" = firstGround (")?;
+    let right = definition(text, name).ok_or(format!("{name} is not defined"))?;
+    let mut found = Vec::new();
+    for word in tokens(right) {
+        if let Some(number) = names.get(&word) {
+            found.push(*number);
+        } else if word.ends_with("Grounds") {
+            found.extend(sequence(text, &word, names)?);
+        }
+    }
+    Ok(found)
+}
+
+/// What a definition has behind its equals sign.
+fn definition<'a>(text: &'a str, name: &str) -> Option<&'a str> {
+    text.lines().find_map(|line| {
+        let (left, right) = line.split_once(" = ")?;
         (left.split(' ').next() == Some(name)).then_some(right)
-    });
-    let right = lines.next().ok_or(format!("{name} is not defined"))?;
-    let words = tokens(right);
-    Ok(words
-        .iter()
-        .filter_map(|word| names.get(word))
-        .copied()
-        .collect())
+    })
 }
 
 /// The numbers in the last comment before a call's declaration that says something of grounds. An example may name the

@@ -359,7 +359,7 @@ fn full(entries: usize, each: usize) -> Vec<Pixel> {
     runs(&all)
 }
 
-/// Around the 255 entries to which labels of one byte were limited.
+/// Around the 255 entries that were the most with labels of one byte.
 fn entry_counts() -> Vec<Case> {
     let short = "256 entries and a label too few: ground 9";
     vec![
