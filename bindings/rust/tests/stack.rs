@@ -27,6 +27,18 @@ fn image(pixels: usize) -> Vec<u8> {
 }
 
 #[test]
+fn the_documentation_says_so() {
+    let said = |document: &str, sizes: &[usize]| {
+        let text = file(document);
+        for size in sizes {
+            assert!(text.contains(&format!("{size} KB")), "{document}: {size}");
+        }
+    };
+    said("bindings/rust/src/lib.rs", &[CARD, TEXT, GROUND, OTHER]);
+    said("bindings/rust/README.md", &[CARD, TEXT]);
+}
+
+#[test]
 fn the_largest_image() {
     let made = with_stack(CARD, || card(&image(MOST_PIXELS), 20)).unwrap();
     assert_eq!(made.labels.len(), MOST_PIXELS);
