@@ -105,8 +105,5 @@ pub fn card_asked(pixels: &[u8], closeness: i32, places: usize) -> u32
 pub fn widen_number(narrow: &[u8], places: usize) -> u32
     ensures { λ r. ⌜ r ≡ widenNumber (now (narrow .entry)) places ⌝ }
 {
-    if places != narrow.len() {
-        return 9;
-    }
-    0
+    if places != narrow.len() { 9 } else { 0 }
 }
