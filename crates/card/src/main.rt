@@ -1,5 +1,7 @@
 // The card program. It reads the text of a swatch and writes its card, or the line of the ground on which the swatch is turned down.
 // If reading or writing fails, it says so on standard error; a text that could not be read to its end gets no answer.
+#![tactic(auto)]
+
 ghost use Rattle.std.specs.Prelude.{◌≡◌, ◌≤◌, length};
 ghost use Rattle.io.specs.Counts.{IsPrefixLen};
 ghost use Rattle.card.specs.Program.{most_read, program_answer, HasRoom};
@@ -15,7 +17,7 @@ const MOST_TEXT: usize = LONGEST_SWATCH + 1;
 const MOST_RETRIES: u32 = 1000;
 
 // How many bytes were read (none if the text has ended), and whether reading failed.
-#[derive(Drop)]
+#[derive(Clone, Copy)]
 struct Input {
     len: usize,
     failed: bool,

@@ -1,5 +1,7 @@
 // The sums of R, G and B of all entries, added column by column from the left. Those of R stand first, then those of G, then those of B: the compiler would add the first
 // two of a pixel in one vector if they stood side by side, and a vector that is read where it has just been written has to wait longest.
+#![tactic(auto)]
+
 ghost use Rattle.std.specs.Prelude.{◌≡◌, ◌≤◌, ◌<◌, ◌*◌, ◌+◌, ◌^◌, length};
 ghost use Rattle.palette.specs.Cards.{pixels_of, most_entries};
 ghost use Rattle.palette.specs.Sound.{most_pixels};
@@ -11,7 +13,7 @@ use palette::{MOST_ENTRIES, Shape};
 use pixel::Pixel;
 
 // What the pixels of an entry come to, channel by channel.
-#[derive(Drop)]
+#[derive(Clone, Copy)]
 pub struct Sums {
     pub red: u32,
     pub green: u32,

@@ -1,4 +1,6 @@
 // Dividing the pixels of an image by sorting their numbers: by kind, hue mode, saturation mode and intensity mode. A node is a range of the sorted numbers.
+#![tactic(auto)]
+
 mod divide;
 mod kinds;
 mod levels;
@@ -15,7 +17,7 @@ pub const MODE_BASE: u32 = 64;
 const MODES: usize = MODE_BASE as usize;
 
 // A range that may still be divided: how many levels are left, the code so far (its kind and the modes chosen), and how many entries come before it.
-#[derive(Drop)]
+#[derive(Clone, Copy)]
 pub struct Node {
     pub setting: u32,
     pub left: usize,
@@ -24,7 +26,7 @@ pub struct Node {
 }
 
 // The modes of a level: how many there are, and how many pixels each has.
-#[derive(Drop)]
+#[derive(Clone, Copy)]
 pub struct Parts {
     pub count: usize,
     pub sizes: [u32; MODES],

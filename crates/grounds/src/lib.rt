@@ -1,4 +1,6 @@
 // The number of a call: that of the first ground that holds, of those that concern the call, or 0 if none holds.
+#![tactic(auto)]
+
 ghost use Rattle.std.specs.Prelude.{◌≡◌, ◌≤◌, length};
 ghost use Rattle.lists.specs.Lists.{total};
 ghost use Rattle.grounds.specs.Grounds.{

@@ -12,7 +12,7 @@ use logarithm::SHEET_SIZE;
 use segmentation::{apply, next_on_line};
 
 // Whether a log was followed to its end, and how many segments were left there.
-#[derive(Drop)]
+#[derive(Clone, Copy)]
 pub struct End {
     pub followed: bool,
     pub left: usize,

@@ -1,4 +1,6 @@
 // The log of a line's joins: written on the way to the modes, and followed again by a replay.
+#![tactic(auto)]
+
 ghost use Rattle.std.specs.Prelude.{◌≡◌, cond, ◌*◌, ◌≤◌, length};
 ghost use Rattle.lists.specs.Lists.{over};
 ghost use Rattle.pooling.specs.Limits.{Small};
@@ -22,7 +24,7 @@ pub const RECORD_NUMBERS: usize = 4;
 // A join as a log has it, four numbers in a row: the number of the first segment of its run, as the segments are numbered just before the join; how many
 // segments the run has; 0 if it is joined by the fall and 1 if by the rise; and its cost.
 #[repr(C)]
-#[derive(Drop)]
+#[derive(Clone, Copy)]
 pub struct JoinRecord {
     pub first: i64,
     pub length: i64,
@@ -31,7 +33,7 @@ pub struct JoinRecord {
 }
 
 // Whether a log was followed to its end, and if so, how many separators there are.
-#[derive(Drop)]
+#[derive(Clone, Copy)]
 pub struct Outcome {
     pub followed: bool,
     pub separators: u32,

@@ -1,5 +1,7 @@
 // The public calls, and nothing else. Each contract says what the call promises for every input, served or turned down (demands D1 to
 // D3 of docs/METHOD.md). No call has a precondition. `now s.entry` is the list as it was lent, `now s.exit` as the call leaves it.
+#![tactic(auto)]
+
 ghost use Rattle.std.specs.Prelude.{◌≡◌, pos, length};
 ghost use Rattle.pooling.specs.Blocks.{direction};
 ghost use Rattle.pooling.specs.Best.{Pooled};
@@ -48,7 +50,7 @@ const VERSION: u32 = 60100;
 // The answers of the public calls. Each has the call's number: 0 if the call is served, otherwise the ground on which it is turned
 // down. Every other figure is then zero.
 #[repr(C)]
-#[derive(Drop)]
+#[derive(Clone, Copy)]
 pub struct MeasuresAnswer {
     pub number: u32,
     pub measures: Measures,
@@ -56,7 +58,7 @@ pub struct MeasuresAnswer {
 
 // The block of bin i has sum sums[i] and length lengths[i]; places past the last bin are zero.
 #[repr(C)]
-#[derive(Drop)]
+#[derive(Clone, Copy)]
 pub struct FitAnswer {
     pub number: u32,
     pub sums: [u32; 256],
@@ -64,7 +66,7 @@ pub struct FitAnswer {
 }
 
 #[repr(C)]
-#[derive(Drop)]
+#[derive(Clone, Copy)]
 pub struct VerdictAnswer {
     pub number: u32,
     pub verdict: Verdict,
@@ -72,7 +74,7 @@ pub struct VerdictAnswer {
 
 // How many separators there are.
 #[repr(C)]
-#[derive(Drop)]
+#[derive(Clone, Copy)]
 pub struct ModesAnswer {
     pub number: u32,
     pub separators: u32,
@@ -80,7 +82,7 @@ pub struct ModesAnswer {
 
 // How many joins there are.
 #[repr(C)]
-#[derive(Drop)]
+#[derive(Clone, Copy)]
 pub struct LogAnswer {
     pub number: u32,
     pub joins: u32,
@@ -88,7 +90,7 @@ pub struct LogAnswer {
 
 // A card, the palette of a cloth: the first len places of entries hold it; the rest are zero.
 #[repr(C)]
-#[derive(Drop)]
+#[derive(Clone, Copy)]
 pub struct Card {
     pub number: u32,
     pub len: u32,
@@ -97,7 +99,7 @@ pub struct Card {
 
 // A text to print: the first len places of bytes hold it; the rest are zero.
 #[repr(C)]
-#[derive(Drop)]
+#[derive(Clone, Copy)]
 pub struct Printed {
     pub number: u32,
     pub len: u32,

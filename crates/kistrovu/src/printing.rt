@@ -9,7 +9,7 @@ use palette::{Shape, area_of};
 use swatch::MOST_SWATCH_PIXELS;
 
 // The number of a text, and how many bytes are written for it: none for a text that is turned down.
-#[derive(Drop)]
+#[derive(Clone, Copy)]
 pub struct Outcome {
     pub number: u32,
     pub len: u32,

@@ -1,4 +1,6 @@
 // Labels: for each pixel the number of its entry, in 16 bits. Labels that are stored as one byte each are widened.
+#![tactic(auto)]
+
 ghost use Rattle.std.specs.Prelude.{◌≡◌, ◌<◌, ◌^◌, length};
 
 // The label that the pixels of an entry bear: the number of the entry.

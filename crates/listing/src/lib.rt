@@ -1,6 +1,8 @@
 // The list of a ring call: the bins where the ring's modes start, from the lowest number up. A card is made without it.
 // The places where the modes start, counted from the opening on, rise from mode to mode. So do their bins up to the last bin of the ring; past it the numbers begin again with 0, and these bins come
 // first in the list.
+#![tactic(auto)]
+
 ghost use Rattle.std.specs.Prelude.{◌≡◌, ◌+◌, ◌%◌, ◌≤◌, ◌<◌, length};
 ghost use Rattle.lists.specs.Lists.{total, first_index, over};
 ghost use Rattle.pooling.specs.Limits.{most_ring_bins, most_ring_counts};
@@ -11,7 +13,7 @@ ghost use Rattle.listing.specs.Numbers.{past_last, bins_from};
 use rings::{MOST_RING_BINS, ring_modes};
 
 // How the places of a ring, counted from its opening on, are numbered: place s is bin opening + s, round the ring.
-#[derive(Drop)]
+#[derive(Clone, Copy)]
 pub struct Ring {
     pub opening: usize,
     pub bins: usize,

@@ -1,5 +1,7 @@
 // The logarithm, by repeated squaring: a state passes from round to round, and each round finds one more bit (rules L1 to L4).
 // Where the stored sheet has it, it is read from there instead (rule L5).
+#![tactic(auto)]
+
 mod rounds;
 mod sheet;
 
@@ -12,7 +14,7 @@ use rounds::{by_rounds, four_by_rounds, two_by_rounds};
 pub use sheet::{SHEET_SIZE, copied_sheet};
 
 // The state between rounds: a mantissa of 2^31 or more and below 2^32, and the bits of the logarithm found so far.
-#[derive(Drop)]
+#[derive(Clone, Copy)]
 pub struct Logarithm {
     pub mantissa: u64,
     pub bits: u64,
@@ -64,27 +66,27 @@ impl Logarithm {
 }
 
 // Two workers, to do their rounds side by side.
-#[derive(Drop)]
+#[derive(Clone, Copy)]
 pub struct Two {
     pub a: Logarithm,
     pub b: Logarithm,
 }
 
 // An odd number times a power of 2.
-#[derive(Drop)]
+#[derive(Clone, Copy)]
 pub struct Odd {
     pub odd: u64,
     pub twos: u64,
 }
 
 // The logarithms of two numbers, and of twice two.
-#[derive(Drop)]
+#[derive(Clone, Copy)]
 pub struct Logs {
     pub a: u64,
     pub b: u64,
 }
 
-#[derive(Drop)]
+#[derive(Clone, Copy)]
 pub struct FourLogs {
     pub first: Logs,
     pub second: Logs,

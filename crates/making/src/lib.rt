@@ -1,4 +1,6 @@
 // The card of an image: its entries, and the entry of each pixel.
+#![tactic(auto)]
+
 use palette::{Entry, MOST_ENTRIES};
 
 mod cards;
@@ -7,7 +9,7 @@ mod entries;
 pub use cards::make_card;
 
 // How many entries a card has as defined, and the entries where a card may hold so many; the places past them are zero.
-#[derive(Drop)]
+#[derive(Clone, Copy)]
 pub struct CardEntries {
     pub total: u32,
     pub entries: [Entry; MOST_ENTRIES],

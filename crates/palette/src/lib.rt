@@ -1,4 +1,6 @@
 // What a card is made of and from: its entries, the shape of an image, and the limits on entries and pixels. specs/ defines what a card is; the crate `making` has the code that makes one.
+#![tactic(auto)]
+
 ghost use Rattle.std.specs.Prelude.{◌≡◌, []};
 ghost use Rattle.lists.specs.Lists.{padded};
 ghost use Rattle.palette.specs.Cards.{most_entries, no_entry};
@@ -11,7 +13,7 @@ pub const MOST_ENTRIES: usize = 1000;
 pub const MOST_PIXELS: usize = 65536;
 
 // The width and height of an image, in pixels: how many columns it has, and how many rows.
-#[derive(Drop)]
+#[derive(Clone, Copy)]
 pub struct Shape {
     pub width: u32,
     pub height: u32,
@@ -19,7 +21,7 @@ pub struct Shape {
 
 // An entry of a card: kind 0 for greys and 1 for colours, its three mode numbers, the mean colour of its pixels, and their count.
 #[repr(C)]
-#[derive(Drop)]
+#[derive(Clone, Copy)]
 pub struct Entry {
     pub kind: u8,
     pub hue: u8,

@@ -1,4 +1,6 @@
 // The measures of a pixel: its intensity, saturation and hue bins, and whether it is grey.
+#![tactic(auto)]
+
 ghost use Rattle.std.specs.Prelude.{◌≡◌, cond, not, ◌+◌, ◌*◌, ◌-◌, ◌≤◌, ◌<◌, leb, get_or};
 ghost use Rattle.pixel.specs.Root.{RootWithin, root_count, Rooted, line_of};
 ghost use Rattle.pixel.specs.Colour.{
@@ -27,7 +29,7 @@ pub const INTENSITIES: usize = 52;
 // The square roots of the numbers below this, rounded down, are the saturation bins.
 pub const ROOTS: usize = SATURATIONS * SATURATIONS;
 
-#[derive(Drop)]
+#[derive(Clone, Copy)]
 pub struct Pixel {
     pub red: u8,
     pub green: u8,
@@ -35,7 +37,7 @@ pub struct Pixel {
 }
 
 #[repr(C)]
-#[derive(Drop)]
+#[derive(Clone, Copy)]
 pub struct Measures {
     pub intensity: u8,
     pub saturation: u8,
@@ -44,7 +46,7 @@ pub struct Measures {
 }
 
 // A hue point turned back by its quarter to (a, b).
-#[derive(Drop)]
+#[derive(Clone, Copy)]
 pub struct Turned {
     pub quarter: u32,
     pub a: u32,
@@ -52,14 +54,14 @@ pub struct Turned {
 }
 
 // A straight line that approximates the square root over one stretch of numbers, in 1024ths.
-#[derive(Drop)]
+#[derive(Clone, Copy)]
 struct Line {
     start: u32,
     slope: u32,
 }
 
 // Every third tangent starts a new group. These are the other two of a group.
-#[derive(Drop)]
+#[derive(Clone, Copy)]
 struct Inner {
     first: u32,
     second: u32,

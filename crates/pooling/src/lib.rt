@@ -1,4 +1,6 @@
 // Pooling: the blocks of a monotone fit, and each bin's place in them.
+#![tactic(auto)]
+
 ghost use Rattle.std.specs.Prelude.{◌≡◌, ◌++◌, map, ◌+◌, ◌-◌, ◌<◌, ◌≤◌, length, take, drop, replicate};
 ghost use Rattle.lists.specs.Lists.{over};
 ghost use Rattle.pooling.specs.Blocks.{Block, Place, direction, steps_to, blocks, places};
@@ -11,14 +13,14 @@ ghost use Rattle.pooling.specs.Stack.{stack_of, sum_in, bins_in, HeldFrom};
 pub const MOST_BINS: usize = 257;
 
 // A block of neighbouring bins. Its sum and length stand for its mean, sum / len.
-#[derive(Drop)]
+#[derive(Clone, Copy)]
 pub struct Block {
     pub sum: u64,
     pub len: u64,
 }
 
 // A bin's place: its block, and the number of that block's first bin.
-#[derive(Drop)]
+#[derive(Clone, Copy)]
 pub struct Place {
     pub start: u64,
     pub block: Block,

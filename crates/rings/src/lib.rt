@@ -1,4 +1,6 @@
 // The modes of a ring of bins: those of the line that it is opened to, joined all round.
+#![tactic(auto)]
+
 ghost use Rattle.std.specs.Prelude.{◌≡◌, map, ◌≤◌, length};
 ghost use Rattle.lists.specs.Lists.{total, over};
 ghost use Rattle.pooling.specs.Limits.{most_ring_bins, most_ring_counts};
@@ -20,7 +22,7 @@ const TWO_TURNS: usize = MOST_RING_BINS + MOST_RING_BINS;
 const HELD_TWICE: usize = MOST_BINS + MOST_BINS;
 
 // A ring by its modes: the bin at which it is opened, and how many modes there are.
-#[derive(Drop)]
+#[derive(Clone, Copy)]
 pub struct Opened {
     pub opening: usize,
     pub modes: usize,

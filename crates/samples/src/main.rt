@@ -1,5 +1,7 @@
 // Samples of pixels, fits, verdicts and modes, as the public calls answer them. Those in `starred` are also proved, from the table in specs/;
 // the others are only run here. What is printed is compared with the file stdout.
+#![tactic(auto)]
+
 use kistrovu::{
     ModesAnswer, kistrovu_fit, kistrovu_line_modes, kistrovu_measures, kistrovu_ring_modes,
     kistrovu_verdict,

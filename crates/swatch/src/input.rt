@@ -18,7 +18,7 @@ use crate::{COLUMNS, LINE, MOST_SWATCH_PIXELS, Reading};
 use palette::{Shape, area_of};
 
 // The value of a field, if there is one.
-#[derive(Drop)]
+#[derive(Clone, Copy)]
 struct Value {
     there: bool,
     value: u32,
@@ -30,7 +30,7 @@ const NO_VALUE: Value = Value {
 };
 
 // The value of a field of 0 to 255, if there is one.
-#[derive(Drop)]
+#[derive(Clone, Copy)]
 struct Colour {
     there: bool,
     value: u8,
@@ -43,14 +43,14 @@ const NO_SHAPE: Shape = Shape {
 };
 
 // The two fields of a header, if both are there.
-#[derive(Drop)]
+#[derive(Clone, Copy)]
 struct FirstLine {
     there: bool,
     shape: Shape,
 }
 
 // The fields of a pixel line, if all three are there, each of 0 to 255.
-#[derive(Drop)]
+#[derive(Clone, Copy)]
 struct Row {
     there: bool,
     red: u8,

@@ -1,4 +1,6 @@
 // The text of a swatch, and the text of its card.
+#![tactic(auto)]
+
 use palette::{MOST_ENTRIES, Shape};
 
 mod input;
@@ -22,7 +24,7 @@ pub const LONGEST_SWATCH: usize = LINE + LINE * MOST_SWATCH_PIXELS;
 pub const PRINTED_MOST: usize = 19 + 49 * MOST_ENTRIES;
 
 // What reading a swatch gives: number 0 and its width and height, or the ground on which it is turned down and 0 for both.
-#[derive(Drop)]
+#[derive(Clone, Copy)]
 pub struct Reading {
     pub number: u32,
     pub shape: Shape,

@@ -1,5 +1,7 @@
 // The test of a stretch of bins: how far its parts are from a monotone fit, and whether that is too far.
 // `judge` gives the verdict of one stretch in one direction at one closeness, which it takes as a setting; `setting_of` gives that.
+#![tactic(auto)]
+
 mod against;
 mod costs;
 mod near;
@@ -25,21 +27,21 @@ pub const LEAST_CLOSENESS: i32 = -10;
 pub const MOST_CLOSENESS: i32 = 20;
 
 // A part's fitted mass A/B (rules T1 and T2).
-#[derive(Drop)]
+#[derive(Clone, Copy)]
 pub struct Mass {
     pub num: u64,
     pub den: u64,
 }
 
 // When a part is near its fitted mass: if the square of the difference is at most factor/2^(shift + 4) of the room (`near.rt`).
-#[derive(Drop)]
+#[derive(Clone, Copy)]
 pub struct Threshold {
     pub factor: u64,
     pub shift: u32,
 }
 
 // The best weight so far, and the threshold that goes with it: a part that is nearer has no larger weight.
-#[derive(Drop)]
+#[derive(Clone, Copy)]
 pub struct Best {
     pub weight: i64,
     pub threshold: Threshold,
@@ -47,7 +49,7 @@ pub struct Best {
 
 // A stretch's cost, and whether it is rejected.
 #[repr(C)]
-#[derive(Drop)]
+#[derive(Clone, Copy)]
 pub struct Verdict {
     pub cost: i64,
     pub rejected: bool,
