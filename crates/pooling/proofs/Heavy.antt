@@ -109,7 +109,7 @@ push-rises {x} {b} p (seg {x = y} {h = h} {b = c} {bs = cs} q k) r =
     by_cond (λ (bs : List Block). Rises (x ++ (y ++ h)) bs) (below b c) (b ∷ c ∷ cs) (push increasing (merged b c) cs)
     (λ e. record { cut = seg p (seg q k); rising = (ltb-true _ _ e, r) })
     (λ e. subst (λ (z : List ℕ). Rises z (push increasing (merged b c) cs)) (append_assoc x y h)
-    (push-rises (forms-join p q (ltb-false _ _ e)) k (strict-tail increasing c cs r)))
+    (push-rises {x = x ++ y} (forms-join p q (ltb-false _ _ e)) k (strict-tail increasing c cs r)))
 
 pub single : (x : ℕ) → Forms (x ∷ []) (record { sum = x; len = 1 })
 single x = record { long = refl; some = omega arith; sums = omega arith; heavy = (omega arith, omega arith) }

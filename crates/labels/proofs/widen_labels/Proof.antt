@@ -9,22 +9,22 @@ use Rattle.lists.proofs.Buffers.{over_none, over-next, over_done}
 use Rattle.labels.proofs.widen_labels.Statement.{statement}
 use Rattle.labels.proofs.widen_labels.Tie as tie
 
-abbrev invariant-loop : tie.invariant-loop
+abbrev invariant-loop : tie.invariant-loop-i
 invariant-loop narrow labels₀ i₀ labels i = (i ≤ length labels₀) × (length labels ≡ length labels₀) × (labels ≡ over (take i narrow) labels₀)
 
-abbrev decreases-loop : tie.decreases-loop
+abbrev decreases-loop : tie.decreases-loop-i
 decreases-loop narrow labels₀ i₀ labels i = length labels₀ - i
 
-loop-holds : tie.Need-loop-init invariant-loop decreases-loop
+loop-holds : tie.Need-loop-i-init invariant-loop decreases-loop
 loop-holds c = (search rules, refl, sym (over_none _))
 
 -- the way to the call
-abbrev entry : tie.At-loop invariant-loop decreases-loop → tie.Start invariant-loop decreases-loop
+abbrev entry : tie.At-loop-i invariant-loop decreases-loop → tie.Start invariant-loop decreases-loop
 entry c = c.before.before.before
 
-loop-again : tie.Need-loop-preserved invariant-loop decreases-loop
+loop-again : tie.Need-loop-i-preserved invariant-loop decreases-loop
 loop-again c =
-    let l = c.before.before.before.loop in
+    let l = c.before.before.before.loop-i in
     let a = (entry c.before.before.before).args in (
       omega arith,
       simp length-set l.invariant.1,
@@ -33,12 +33,12 @@ loop-again c =
 
 returns : tie.Need-returns invariant-loop decreases-loop
 returns c =
-    let l = c.before.loop in
+    let l = c.before.loop-i in
     let a = (entry c.before).args in
     l.invariant.2 ∙ over_done a.narrow.now a.labels.now l.i (omega arith) (omega arith)
 
-pub widen-labels-spec : {M : Type 1} → statement M
-widen-labels-spec =
+pub widen_labels_spec : {M : Type 1} → statement M
+widen_labels_spec =
     tie.close
     (tie.spec
     invariant-loop

@@ -8,5 +8,5 @@ returns : tie.Need-returns
 unfolding sheet_size
 returns c = search rules
 
-pub on-sheet-spec : {M : Type 1} → statement M
-on-sheet-spec = tie.close (tie.spec returns)
+pub on_sheet_spec : {M : Type 1} → statement M
+on_sheet_spec = tie.close (tie.spec returns)

@@ -12,14 +12,14 @@ use Rattle.logarithm.proofs.Laws.{lg-below}
 use Rattle.logarithm.proofs.read.Statement.{statement}
 use Rattle.logarithm.proofs.read.Tie as tie
 
-sub-place : tie.Need-overflow-sub-place
+sub-place : tie.Need-overflow_sub-place
 sub-place c = search rules
 
-mul_wide : tie.Need-overflow-mul-wide
+mul_wide : tie.Need-offset_bounds-sheet-place
 unfolding sheet_size
 mul_wide c = search rules
 
-element-copy-out-wide : tie.Need-element-copy-out-wide
+element-copy-out-wide : tie.Need-bounds-sheet-place
 unfolding sheet_size
 element-copy-out-wide c = search rules
 
@@ -35,7 +35,7 @@ read_is c =
     let s = c.before.before.before.before in
     c.before.wide.ensures ∙ ap (λ (xs : List ℕ). get_or xs (s.args.p.odd - 1) 0) s.requires.0 ∙ sheet-at s.args.p.odd s.requires.1 s.requires.2
 
-add-result : tie.Need-overflow-add-result
+add-result : tie.Need-overflow_add-result
 unfolding units_per_bit round_count sheet_size
 add-result c =
     let s = c.before.before.before.before in

@@ -9,26 +9,26 @@ use Rattle.pixel.proofs.Saturation.{saturation-root}
 use Rattle.pixel.proofs.saturation_by.Statement.{statement}
 use Rattle.pixel.proofs.saturation_by.Tie as tie
 
-small : (c : tie.After-chroma-squared) → c.chroma-squared.result ≤ 65025
-small c = omega (arith, c.chroma-squared.ensures, chroma-le c.before.before.args.p (omega arith) (omega arith) (omega arith))
+small : (c : tie.After-chroma_squared) → c.chroma_squared.result ≤ 65025
+small c = omega (arith, c.chroma_squared.ensures, chroma-le c.before.before.args.p (omega arith) (omega arith) (omega arith))
 
-chroma-squared-requires : tie.Need-chroma-squared-requires
+chroma-squared-requires : tie.Need-chroma_squared-requires
 chroma-squared-requires c κs = search rules
 
-mul-result : tie.Need-overflow-mul-result
+mul-result : tie.Need-overflow_mul-result
 mul-result c = omega (arith, small c)
 
-cast-result : tie.Need-overflow-cast-result
+cast-result : tie.Need-overflow_cast-result
 cast-result c = omega (arith, small c)
 
-shared-slice-read-result : tie.Need-shared-slice-read-result
+shared-slice-read-result : tie.Need-bounds-roots-chroma_squared
 shared-slice-read-result c = omega (arith, small c.before, c.before.before.before.requires.long)
 
 returns : tie.Need-returns
 unfolding saturation_bin
 returns c =
-    let q = c.before.chroma-squared.result in
-    saturation-root q _ (small c.before) (c.before.before.before.requires.each (2 * q / 75) (omega (arith, small c.before))) ∙ ap saturation_of c.before.chroma-squared.ensures
+    let q = c.before.chroma_squared.result in
+    saturation-root q _ (small c.before) (c.before.before.before.requires.each (2 * q / 75) (omega (arith, small c.before))) ∙ ap saturation_of c.before.chroma_squared.ensures
 
-pub saturation-by-spec : {M : Type 1} → statement M
-saturation-by-spec = tie.close (tie.spec chroma-squared-requires mul-result cast-result shared-slice-read-result returns)
+pub saturation_by_spec : {M : Type 1} → statement M
+saturation_by_spec = tie.close (tie.spec chroma-squared-requires mul-result cast-result shared-slice-read-result returns)

@@ -7,31 +7,31 @@ use borrow.Author.Rules.{rules}
 use Rattle.pixel.proofs.saturation_of.Statement.{statement}
 use Rattle.pixel.proofs.saturation_of.Tie as tie
 
-small : (c : tie.After-near-root) → c.near-root.result < 42
-small c = begins-below c.near-root.result 42 (2 * c.before.args.q) (omega arith) (omega arith)
+small : (c : tie.After-near_root-near) → c.near_root-near.result < 42
+small c = begins-below c.near_root-near.result 42 (2 * c.before.args.q) (omega arith) (omega arith)
 
-mul-x : tie.Need-overflow-mul-x
+mul-x : tie.Need-overflow_mul-x
 mul-x c = search rules
 
-near-root-requires : tie.Need-near-root-requires
+near-root-requires : tie.Need-near_root-near-requires
 near-root-requires c κs = search rules
 
-add-next : tie.Need-overflow-add-next
+add-next : tie.Need-overflow_add-next
 add-next c = omega (arith, small c)
 
-mul-chosen : tie.Need-overflow-mul-chosen
-mul-chosen c = let k : c.near-root.result + 1 ≤ 42 = omega (arith, small c) in omega (arith, mul-le-mul k k)
+mul-chosen : tie.Need-overflow_mul-next
+mul-chosen c = let k : c.near_root-near.result + 1 ≤ 42 = omega (arith, small c) in omega (arith, mul-le-mul k k)
 
 chosen-requires : tie.Need-chosen-requires
 chosen-requires c κs = search rules
 
-cast-result : tie.Need-overflow-cast-result
+cast-result : tie.Need-overflow_cast-result
 cast-result c = omega (arith, small c.before)
 
 returns : tie.Need-returns
-returns c = rw c.chosen.ensures.0 (saturation-near c.before.before.args.q c.before.near-root.result (omega arith) c.before.near-root.ensures)
+returns c = rw c.chosen.ensures.0 (saturation-near c.before.before.args.q c.before.near_root-near.result (omega arith) c.before.near_root-near.ensures)
 
-pub saturation-of-spec : {M : Type 1} → statement M
-saturation-of-spec =
+pub saturation_of_spec : {M : Type 1} → statement M
+saturation_of_spec =
     tie.close
     (tie.spec mul-x near-root-requires add-next mul-chosen chosen-requires cast-result returns)

@@ -12,10 +12,10 @@ use Rattle.pooling.proofs.take_bin.Tie as tie
 abbrev entry : tie.After-push → tie.Start
 entry c = c.before.before.before.before.before.before.before
 
-mul-push : tie.Need-overflow-mul-push
+mul-push : tie.Need-offset_bounds-h-i
 mul-push c = search rules
 
-shared-slice-read-push : tie.Need-shared-slice-read-push
+shared-slice-read-push : tie.Need-bounds-h-i
 shared-slice-read-push c = search rules
 
 push-requires : tie.Need-push-requires
@@ -24,10 +24,10 @@ push-requires c κs =
     let room = held-room (direction s.args.rising) s.args.h.now s.args.i s.args.sums.now s.args.lens.now s.args.n s.requires.1.1.0 s.requires.1.1.1 in
     (omega arith, omega arith, omega (arith, s.requires.0.counts), omega (arith, s.requires.0.bins))
 
-same_length : tie.Need-same-length
+same_length : tie.Need-shape_of-sums
 same_length c = search rules
 
-same-length-2 : tie.Need-same-length-2
+same-length-2 : tie.Need-shape_of-lens
 same-length-2 c = search rules
 
 returns : tie.Need-returns
@@ -36,11 +36,11 @@ returns c =
     let s = entry p in
     let r = p.push in
     let w = direction s.args.rising in (
-      held_more w s.args.h.now s.args.i s.args.sums.now s.args.lens.now s.args.n s.pre.1.1.0 s.pre.1.1.1 r.new.0 r.new.1.0 r.result r.ensures,
+      held_more w s.args.h.now s.args.i s.args.sums.now s.args.lens.now s.args.n s.requires.1.1.0 s.requires.1.1.1 r.new.sums r.new.lens r.result r.ensures,
       always-pooled w (drop s.args.i s.args.h.now),
     )
 
-pub take-bin-spec : {M : Type 1} → statement M
-take-bin-spec =
+pub take_bin_spec : {M : Type 1} → statement M
+take_bin_spec =
     tie.close
     (tie.spec mul-push shared-slice-read-push push-requires same_length same-length-2 returns)

@@ -5,19 +5,19 @@ use Rattle.logarithm.proofs.Laws.{start-shift, zeros-range}
 use Rattle.logarithm.proofs.Logarithm.start.Statement.{statement}
 use Rattle.logarithm.proofs.Logarithm.start.Tie as tie
 
-sub-t3 : tie.Need-overflow-sub-t3
+sub-t3 : tie.Need-overflow_sub-result
 sub-t3 c = omega (arith, zeros-range c.args.x c.requires)
 
-cast-t4 : tie.Need-overflow-cast-t4
+cast-t4 : tie.Need-overflow_cast-result
 cast-t4 c = omega (arith, zeros-range c.args.x c.requires)
 
-shl-t5 : tie.Need-overflow-shl-t5
+shl-t5 : tie.Need-overflow_shl-result
 shl-t5 c = omega (arith, zeros-range c.args.x c.requires)
 
-sub-t6 : tie.Need-overflow-sub-t6
+sub-t6 : tie.Need-overflow_sub-result-2
 sub-t6 c = omega (arith, zeros-range c.args.x c.requires)
 
-cast-t7 : tie.Need-overflow-cast-t7
+cast-t7 : tie.Need-overflow_cast-result-2
 cast-t7 c = search rules
 
 returns : tie.Need-returns

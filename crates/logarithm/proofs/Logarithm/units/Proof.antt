@@ -4,12 +4,12 @@ use Rattle.logarithm.specs.Log.{round_count, units_per_bit}
 use Rattle.logarithm.proofs.Logarithm.units.Statement.{statement}
 use Rattle.logarithm.proofs.Logarithm.units.Tie as tie
 
-mul-result : tie.Need-overflow-mul-result
+mul-result : tie.Need-overflow_mul-result
 mul-result c = omega arith
 
 returns : tie.Need-returns
 unfolding units_per_bit round_count
 returns c = omega arith
 
-pub units-spec : {M : Type 1} → statement M
-units-spec = tie.close (tie.spec mul-result returns)
+pub units_spec : {M : Type 1} → statement M
+units_spec = tie.close (tie.spec mul-result returns)

@@ -11,7 +11,7 @@ round-requires-2 : tie.Need-round-requires-2
 round-requires-2 c κs = search rules
 
 returns : tie.Need-returns
-returns c = rw (c.before.round.ensures, c.round2.ensures) refl
+returns c = rw (c.before.round.ensures, c.round-2.ensures) refl
 
-pub round-spec : {M : Type 1} → statement M
-round-spec = tie.close (tie.spec round-requires round-requires-2 returns)
+pub round_spec : {M : Type 1} → statement M
+round_spec = tie.close (tie.spec round-requires round-requires-2 returns)

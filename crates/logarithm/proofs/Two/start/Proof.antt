@@ -11,7 +11,7 @@ start-requires-2 : tie.Need-start-requires-2
 start-requires-2 c κs = search rules
 
 returns : tie.Need-returns
-returns c = rw (c.before.start.ensures, c.start2.ensures) refl
+returns c = rw (c.before.start.ensures, c.start-2.ensures) refl
 
 pub start_spec : {M : Type 1} → statement M
 start_spec = tie.close (tie.spec start-requires start-requires-2 returns)

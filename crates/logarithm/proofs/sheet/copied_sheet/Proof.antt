@@ -10,5 +10,5 @@ returns : tie.Need-returns
 unfolding log_sheet sheet_size numbers lg floor_log rounds round_count units_per_bit
 returns c = refl
 
-pub copied-sheet-spec : {M : Type 1} → statement M
-copied-sheet-spec = tie.close (tie.spec returns)
+pub copied_sheet_spec : {M : Type 1} → statement M
+copied_sheet_spec = tie.close (tie.spec returns)
