@@ -33,7 +33,7 @@ mul-result c = omega (arith, steep c.before)
 
 add-result : tie.Need-overflow_add-result
 add-result c =
-    let s : c.before.before.line_of-line.result.start ≤ 16600 = rw c.before.before.Line-of.ensures (line-le _).0 in
+    let s : c.before.before.line_of-line.result.start ≤ 16600 = rw c.before.before.line_of-line.ensures (line-le _).0 in
     omega (arith, steep c.before.before)
 
 returns : tie.Need-returns

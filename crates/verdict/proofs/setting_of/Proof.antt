@@ -22,14 +22,14 @@ small c = record { sfits = omega (arith, (found c).within) }
 left_is : (c : tie.Start) → to_z w32 (of_z w32 c.args.closeness) -ℤ least_closeness ≡ pos (found c).setting
 left_is c = ap (λ (z : ℤ). z -ℤ least_closeness) (to_z-of_z w32 c.args.closeness c.ranges.closeness) ∙ (found c).counted
 
-sub-result : tie.Need-overflow-sub-result
+sub-result : tie.Need-overflow_sub-result
 unfolding least_closeness
 sub-result c = rw (left_is c) (small c)
 
 cast_is : (c : tie.Start) → to_z w32 (of_z w32 (to_z w32 (of_z w32 c.args.closeness) -ℤ least_closeness)) ≡ pos (found c).setting
 cast_is c = ap (λ (z : ℤ). to_z w32 (of_z w32 z)) (left_is c) ∙ to_z-of_z w32 _ (small c)
 
-cast-result : tie.Need-overflow-cast-result
+cast-result : tie.Need-overflow_cast-result
 unfolding least_closeness most_closeness last_setting
 cast-result c = rw (cast_is c) (tt, record { fits = omega (arith, (found c).within) })
 
@@ -37,5 +37,5 @@ returns : tie.Need-returns
 unfolding least_closeness
 returns c = rw (cast_is c) ((found c).within, (found c).back)
 
-pub setting-of-spec : {M : Type 1} → statement M
-setting-of-spec = tie.close (tie.spec sub-result cast-result returns)
+pub setting_of_spec : {M : Type 1} → statement M
+setting_of_spec = tie.close (tie.spec sub-result cast-result returns)

@@ -18,14 +18,14 @@ use borrow.Author.Rules.{rules}
 use Rattle.verdict.proofs.costs.capped_cost.Statement.{statement}
 use Rattle.verdict.proofs.costs.capped_cost.Tie as tie
 
-bar-requires : tie.Need-bar-requires
+bar-requires : tie.Need-bar-height-requires
 bar-requires c κs = search rules
 
 -- what the bar is, and the limit
-height-is : (c : tie.After-bar) → let s = c.before.before in to_z w64 (of_z w64 c.bar.result) ≡ bar (closeness_of s.args.setting) (length s.args.h.now)
-height-is c = handed-back c.bar.type-inv ∙ c.bar.ensures
+height-is : (c : tie.After-bar-height) → let s = c.before.before in to_z w64 (of_z w64 c.bar-height.result) ≡ bar (closeness_of s.args.setting) (length s.args.h.now)
+height-is c = handed-back c.bar-height.type_inv ∙ c.bar-height.ensures
 
-height-small : (c : tie.After-bar) → mag (to_z w64 (of_z w64 c.bar.result)) < 2 ^ 47
+height-small : (c : tie.After-bar-height) → mag (to_z w64 (of_z w64 c.bar-height.result)) < 2 ^ 47
 height-small c =
     let s = c.before.before in
     rw (height-is c) (bar-small s.args.setting (length s.args.h.now) s.requires.1.0.1 s.requires.1.0.0 s.requires.0.bins)
@@ -33,7 +33,7 @@ height-small c =
 limit_is : (c : tie.After-sum) → let s = c.before.before.before in to_z w64 (of_z w64 c.sum.result) ≡ s.args.cap +ℤ bar (closeness_of s.args.setting) (length s.args.h.now)
 limit_is c =
     let s = c.before.before.before in
-    handed-back c.sum.type-inv ∙ c.sum.ensures
+    handed-back c.sum.type_inv ∙ c.sum.ensures
     ∙ ap₂ (λ (x y : ℤ). x +ℤ y) (to_z-of_z w64 s.args.cap s.ranges.cap) (height-is c.before)
 
 sum-requires : tie.Need-sum-requires
@@ -41,14 +41,14 @@ sum-requires c κs =
     let s = c.before.before in
     (rw (to_z-of_z w64 s.args.cap s.ranges.cap) s.requires.1.1.0, omega (arith, height-small c))
 
-best-of-requires : tie.Need-best-of-requires
+best-of-requires : tie.Need-best_of-best-requires
 best-of-requires c κs = search rules
 
 less-requires : tie.Need-less-requires
 less-requires c κs =
     let s = c.before.before.before.before in (
-      rw (handed-back {z = c.best_of.result} c.best_of.type-inv)
-          (omega (arith, attained-small (direction s.args.rising) s.args.h.now s.requires.0 c.best_of.result c.best_of.ensures.attained)),
+      rw (handed-back {z = c.best_of-best.result} c.best_of-best.type_inv)
+          (omega (arith, attained-small (direction s.args.rising) s.args.h.now s.requires.0 c.best_of-best.result c.best_of-best.ensures.attained)),
       omega (arith, height-small c.before.before),
     )
 
@@ -56,9 +56,9 @@ returns : tie.Need-returns
 returns c =
     let b = c.before in
     let s = b.before.before.before.before in
-    rw (handed-back {z = c.less.result} c.less.type-inv, c.less.ensures, handed-back {z = c.before.best_of.result} b.best_of.type-inv, height-is b.before.before)
-    (capped-cost-is s.args.setting (direction s.args.rising) s.args.h.now s.args.cap b.best_of.result s.requires.0 s.requires.1.0.0 s.requires.1.0.1
-    (rw (limit_is b.before) at b.best_of.ensures))
+    rw (handed-back {z = c.less.result} c.less.type_inv, c.less.ensures, handed-back {z = c.before.best_of-best.result} b.best_of-best.type_inv, height-is b.before.before)
+    (capped-cost-is s.args.setting (direction s.args.rising) s.args.h.now s.args.cap b.best_of-best.result s.requires.0 s.requires.1.0.0 s.requires.1.0.1
+    (rw (limit_is b.before) at b.best_of-best.ensures))
 
-pub capped-cost-spec : {M : Type 1} → statement M
-capped-cost-spec = tie.close (tie.spec bar-requires sum-requires best-of-requires less-requires returns)
+pub capped_cost_spec : {M : Type 1} → statement M
+capped_cost_spec = tie.close (tie.spec bar-requires sum-requires best-of-requires less-requires returns)

@@ -5,10 +5,10 @@ use borrow.Author.Rules.{rules}
 use Rattle.verdict.proofs.parts.all_counts.Statement.{statement}
 use Rattle.verdict.proofs.parts.all_counts.Tie as tie
 
-mul_wide : tie.Need-overflow-mul-wide
+mul_wide : tie.Need-offset_bounds-before-h
 mul_wide c = search rules
 
-element-copy-out-wide : tie.Need-element-copy-out-wide
+element-copy-out-wide : tie.Need-bounds-before-h
 element-copy-out-wide c = search rules
 
 wide-requires : tie.Need-wide-requires
@@ -17,5 +17,5 @@ wide-requires c κs = search rules
 returns : tie.Need-returns
 returns c = let s = c.before.before.before in c.wide.ensures ∙ running-all s.args.h.now s.args.before.now s.requires.1
 
-pub all-counts-spec : {M : Type 1} → statement M
-all-counts-spec = tie.close (tie.spec mul_wide element-copy-out-wide wide-requires returns)
+pub all_counts_spec : {M : Type 1} → statement M
+all_counts_spec = tie.close (tie.spec mul_wide element-copy-out-wide wide-requires returns)

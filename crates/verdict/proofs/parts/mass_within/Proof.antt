@@ -10,13 +10,13 @@ use borrow.Author.Rules.{rules}
 use Rattle.verdict.proofs.parts.mass_within.Statement.{statement}
 use Rattle.verdict.proofs.parts.mass_within.Tie as tie
 
-add-t4 : tie.Need-overflow-add-t4
+add-t4 : tie.Need-overflow_add-result
 add-t4 c = search rules
 
-sub-t5 : tie.Need-overflow-sub-t5
+sub-t5 : tie.Need-overflow_sub-result
 sub-t5 c = search rules
 
-mul-t7 : tie.Need-overflow-mul-t7
+mul-t7 : tie.Need-overflow_mul-result
 mul-t7 c =
     let s = c.before in
     let bins : s.args.j + 1 - s.args.i ≤ most_bins = omega arith in
@@ -26,5 +26,5 @@ returns : tie.Need-returns
 unfolding mass_within
 returns c = rw add-one refl
 
-pub mass-within-spec : {M : Type 1} → statement M
-mass-within-spec = tie.close (tie.spec add-t4 sub-t5 mul-t7 returns)
+pub mass_within_spec : {M : Type 1} → statement M
+mass_within_spec = tie.close (tie.spec add-t4 sub-t5 mul-t7 returns)

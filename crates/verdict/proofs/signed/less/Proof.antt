@@ -12,11 +12,11 @@ use Rattle.verdict.proofs.signed.less.Tie as tie
 operands : (c : tie.Start) → to_z w64 (of_z w64 c.args.x) -ℤ to_z w64 (of_z w64 c.args.y) ≡ c.args.x -ℤ c.args.y
 operands c = ap₂ (λ (x y : ℤ). x -ℤ y) (to_z-of_z w64 c.args.x c.ranges.x) (to_z-of_z w64 c.args.y c.ranges.y)
 
-sub-result : tie.Need-overflow-sub-result
+sub-result : tie.Need-overflow_sub-result
 sub-result c = rw (operands c) (less-fits c.args.x c.args.y c.requires.0 c.requires.1)
 
 returns : tie.Need-returns
 returns c = ap (λ (z : ℤ). to_z w64 (of_z w64 z)) (operands c) ∙ to_z-of_z w64 _ (less-fits c.args.x c.args.y c.requires.0 c.requires.1)
 
-pub less-spec : {M : Type 1} → statement M
-less-spec = tie.close (tie.spec sub-result returns)
+pub less_spec : {M : Type 1} → statement M
+less_spec = tie.close (tie.spec sub-result returns)

@@ -12,11 +12,11 @@ use Rattle.verdict.proofs.signed.sum.Tie as tie
 operands : (c : tie.Start) → to_z w64 (of_z w64 c.args.x) +ℤ to_z w64 (of_z w64 c.args.y) ≡ c.args.x +ℤ c.args.y
 operands c = ap₂ (λ (x y : ℤ). x +ℤ y) (to_z-of_z w64 c.args.x c.ranges.x) (to_z-of_z w64 c.args.y c.ranges.y)
 
-add-result : tie.Need-overflow-add-result
+add-result : tie.Need-overflow_add-result
 add-result c = rw (operands c) (sum_fits c.args.x c.args.y c.requires.0 c.requires.1)
 
 returns : tie.Need-returns
 returns c = ap (λ (z : ℤ). to_z w64 (of_z w64 z)) (operands c) ∙ to_z-of_z w64 _ (sum_fits c.args.x c.args.y c.requires.0 c.requires.1)
 
-pub sum-spec : {M : Type 1} → statement M
-sum-spec = tie.close (tie.spec add-result returns)
+pub sum_spec : {M : Type 1} → statement M
+sum_spec = tie.close (tie.spec add-result returns)

@@ -15,10 +15,10 @@ use Rattle.verdict.proofs.Settings.{bar-setting}
 use Rattle.verdict.proofs.weights.bar.Statement.{statement}
 use Rattle.verdict.proofs.weights.bar.Tie as tie
 
-add-lg : tie.Need-overflow-add-lg
+add-lg : tie.Need-overflow_add-bins
 add-lg c = search rules
 
-mul-lg : tie.Need-overflow-mul-lg
+mul-lg : tie.Need-overflow_mul-bins
 mul-lg c = rw add-one (omega (arith, parts-range c.args.bins c.requires.1 c.requires.2))
 
 lg-requires : tie.Need-lg-requires
@@ -34,7 +34,7 @@ raised_is c =
     (c.before.lg.ensures ∙ ap (λ (n : ℕ). lg (c.before.before.args.bins * n / 2)) (add-one c.before.before.args.bins))
     c.units.ensures
 
-add-difference : tie.Need-overflow-add-difference
+add-difference : tie.Need-overflow_add-lg
 add-difference c = let s = c.before.before in omega (arith, raised_is c, raised-small s.args.setting s.args.bins s.requires.0 s.requires.1 s.requires.2)
 
 units-requires-2 : tie.Need-units-requires-2
@@ -45,14 +45,14 @@ unfolding settings_below least_closeness
 difference-requires c κs =
     let u = c.before in
     let s = u.before.before in
-    (omega (arith, raised_is u, raised-small s.args.setting s.args.bins s.requires.0 s.requires.1 s.requires.2), omega (arith, c.units2.ensures, below-units))
+    (omega (arith, raised_is u, raised-small s.args.setting s.args.bins s.requires.0 s.requires.1 s.requires.2), omega (arith, c.units-2.ensures, below-units))
 
 returns : tie.Need-returns
 unfolding settings_below least_closeness
 returns c =
     let u = c.before.before in
     let s = u.before.before in
-    handed-back c.difference.type-inv ∙ c.difference.ensures ∙ ap₂ sub_ℕ (raised_is u) c.before.units2.ensures ∙ sym (bar-setting s.args.setting s.args.bins)
+    handed-back c.difference.type_inv ∙ c.difference.ensures ∙ ap₂ sub_ℕ (raised_is u) c.before.units-2.ensures ∙ sym (bar-setting s.args.setting s.args.bins)
 
-pub bar-spec : {M : Type 1} → statement M
-bar-spec = tie.close (tie.spec add-lg mul-lg lg-requires units-requires add-difference units-requires-2 difference-requires returns)
+pub bar_spec : {M : Type 1} → statement M
+bar_spec = tie.close (tie.spec add-lg mul-lg lg-requires units-requires add-difference units-requires-2 difference-requires returns)

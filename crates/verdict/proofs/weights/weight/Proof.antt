@@ -13,81 +13,81 @@ use Rattle.verdict.proofs.weights.weight.Tie as tie
 scaled : (s : tie.Start) (j : ℕ) → j ≤ s.args.n → j * s.args.m.den < 2 ^ 32
 scaled s j l = (counted s.args.n s.args.k s.args.m s.requires.1 j l).below
 
-mul-if1 : tie.Need-overflow-mul-if1
+mul-if1 : tie.Need-overflow_mul-k
 mul-if1 c = omega (arith, scaled c.before c.before.args.k c.before.requires.1.partial)
 
-returns : tie.Need-returns
+returns : tie.Need-returns-then-m-k
 returns c =
     let s = c.before.before.before in
-    sym (weight-zero s.args.n s.args.k s.args.m c.if1.true s.requires.1.partial)
+    sym (weight-zero s.args.n s.args.k s.args.m c.if-m-k.true s.requires.1.partial)
 
-mul-one-term : tie.Need-overflow-mul-one-term
+mul-one-term : tie.Need-overflow_mul-n
 mul-one-term c = search rules
 
-mul-one-term-2 : tie.Need-overflow-mul-one-term-2
+mul-one-term-2 : tie.Need-overflow_mul-n-then-k-eq0
 mul-one-term-2 c = search rules
 
-sub-one-term : tie.Need-overflow-sub-one-term
+sub-one-term : tie.Need-overflow_sub-n
 sub-one-term c = search rules
 
-one-term-requires : tie.Need-one-term-requires
+one-term-requires : tie.Need-one_term-requires
 one-term-requires c κs =
     let s = c.before.before.before.before.before.before.before in
-    let l = logged_none s.args.n s.args.k s.args.m s.requires.1 c.before.before.before.if2.true c.before.before.before.before.if1.false in
+    let l = logged_none s.args.n s.args.k s.args.m s.requires.1 c.before.before.before.if-k-eq0.true c.before.before.before.before.if-m-k.false in
     (s.requires.2, s.requires.0, l.0, l.1)
 
-returns-2 : tie.Need-returns-2
+returns-2 : tie.Need-returns-then-k-eq0
 returns-2 c =
     let s = c.before.before.before.before.before.before.before.before in
-    handed-back c.one-term.type-inv ∙ c.one-term.ensures ∙ sym (weight-none s.args.n s.args.k s.args.m c.before.before.before.before.if2.true)
+    handed-back c.one_term.type_inv ∙ c.one_term.ensures ∙ sym (weight-none s.args.n s.args.k s.args.m c.before.before.before.before.if-k-eq0.true)
 
-mul-one-term-3 : tie.Need-overflow-mul-one-term-3
+mul-one-term-3 : tie.Need-overflow_mul-k-then-k-n
 mul-one-term-3 c =
     let s = c.before.before.before.before.before.before in
     omega (arith, scaled s s.args.k s.requires.1.partial)
 
-one-term-requires-2 : tie.Need-one-term-requires-2
+one-term-requires-2 : tie.Need-one_term-requires-then-k-n
 one-term-requires-2 c κs =
     let s = c.before.before.before.before.before.before in
-    let l = logged-all s.args.n s.args.k s.args.m s.requires.1 c.before.if3.true c.before.before.if2.false in
+    let l = logged-all s.args.n s.args.k s.args.m s.requires.1 c.before.if-k-n.true c.before.before.if-k-eq0.false in
     (s.requires.2, omega (arith, s.requires.0, s.requires.1.partial), l.0, l.1)
 
-returns-3 : tie.Need-returns-3
+returns-3 : tie.Need-returns-then-k-n
 returns-3 c =
     let s = c.before.before.before.before.before.before.before in
-    handed-back c.one-term2.type-inv ∙ c.one-term2.ensures ∙ sym (weight-all s.args.n s.args.k s.args.m c.before.before.if3.true)
+    handed-back c.one_term-then-k-n.type_inv ∙ c.one_term-then-k-n.ensures ∙ sym (weight-all s.args.n s.args.k s.args.m c.before.before.if-k-n.true)
 
-sub-rest : tie.Need-overflow-sub-rest
+sub-rest : tie.Need-overflow_sub-rest
 sub-rest c = search rules
 
-mul-two-terms : tie.Need-overflow-mul-two-terms
+mul-two-terms : tie.Need-overflow_mul-k-2
 mul-two-terms c =
     let s = c.before.before.before.before.before.before in
     omega (arith, scaled s s.args.k s.requires.1.partial)
 
-mul-two-terms-2 : tie.Need-overflow-mul-two-terms-2
+mul-two-terms-2 : tie.Need-overflow_mul-rest
 mul-two-terms-2 c =
     let s = c.before.before.before.before.before.before.before in
     omega (arith, scaled s (s.args.n - s.args.k) (omega arith))
 
-mul-two-terms-3 : tie.Need-overflow-mul-two-terms-3
+mul-two-terms-3 : tie.Need-overflow_mul-n-2
 mul-two-terms-3 c = search rules
 
-sub-two-terms : tie.Need-overflow-sub-two-terms
+sub-two-terms : tie.Need-overflow_sub-n-2
 sub-two-terms c = search rules
 
-two-terms-requires : tie.Need-two-terms-requires
+two-terms-requires : tie.Need-two_terms-requires
 two-terms-requires c κs =
     let s = c.before.before.before.before.before.before.before.before.before in
-    let l = logged-both s.args.n s.args.k s.args.m s.requires.1 c.before.before.before.before.before.if2.false c.before.before.before.before.if3.false in
+    let l = logged-both s.args.n s.args.k s.args.m s.requires.1 c.before.before.before.before.before.if-k-eq0.false c.before.before.before.before.if-k-n.false in
     (s.requires.2, omega (arith, s.requires.0, s.requires.1.partial), l.0.0, l.0.1, l.1.0, l.1.1)
 
-returns-4 : tie.Need-returns-4
+returns-4 : tie.Need-returns
 unfolding weight
-returns-4 c = handed-back c.two-terms.type-inv ∙ c.two-terms.ensures
+returns-4 c = handed-back c.two_terms.type_inv ∙ c.two_terms.ensures
 
-pub weight-spec : {M : Type 1} → statement M
-weight-spec =
+pub weight_spec : {M : Type 1} → statement M
+weight_spec =
     tie.close
     (tie.spec
     mul-if1
