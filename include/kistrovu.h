@@ -14,7 +14,7 @@
  *         printf("%u of %u %u %u\n", entry->count, entry->red, entry->green, entry->blue);
  *     }
  *
- * Link libkistrovu.a: `rt staticlib kistrovu` makes it for x86-64, tools/install installs it, and then `pkg-config
+ * Link libkistrovu.a: `tools/library` makes it for x86-64, tools/install installs it, and then `pkg-config
  * --cflags --libs kistrovu` gives the flags. From the C library it needs memcpy and memset. examples/controller.c is a
  * whole program.
  *

@@ -1,7 +1,7 @@
 //! Times the engine, through its static library, against a Rust program written for speed (`fast.rs`), and its two card calls
 //! against each other, in one run.
 //!
-//! In `bench/`, after `rt staticlib kistrovu` at the repository's root:
+//! In `bench/`, after `tools/library` at the repository's root:
 //!
 //!     cargo run --release
 //!

@@ -326,7 +326,7 @@ compiling() {
     mkdir "$work/bare"
     cp -R tools include "$work/bare"
     PKG_CONFIG_LIBDIR=$work/none.d PKG_CONFIG_PATH='' try "$work/bare/tools/joins" <<<"$humps"
-    check "no library at all" ends 2 'libkistrovu.a is missing: rt staticlib kistrovu makes it; nor does pkg-config find an installed one'
+    check "no library at all" ends 2 'libkistrovu.a is missing: tools/library makes it; nor does pkg-config find an installed one'
     KISTROVU_LIB=$top/target/staticlib try "$work/bare/tools/joins" <<<"$humps"
     check "a library in another folder" gives - 'line of 9 bins'
     installed

@@ -1,6 +1,6 @@
 //! Compares the engine, through its static library, with the reference.
 //!
-//! In `tests/`, after `rt staticlib kistrovu` at the repository's root:
+//! In `tests/`, after `tools/library` at the repository's root:
 //!
 //!     cargo run --release -p compare -- [--seed S] [--count N] [--only CALLS]
 //!

@@ -1,5 +1,5 @@
 //! Writes the conformance kit `tests/vectors` anew, with the answers of the engine and of the second implementation. In
-//! `tests/`, after `rt staticlib kistrovu` at the repository's root:
+//! `tests/`, after `tools/library` at the repository's root:
 //!
 //!     cargo run --release -p conformance
 //!

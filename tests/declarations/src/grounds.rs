@@ -18,16 +18,16 @@ pub struct Grounds {
 const NUMBERS: [(&str, Option<&str>); 13] = [
     ("kistrovu_version", None),
     ("kistrovu_measures", None),
-    ("kistrovu_fit", Some("fitNumber")),
-    ("kistrovu_verdict", Some("verdictNumber")),
-    ("kistrovu_line_modes", Some("modesNumber")),
-    ("kistrovu_ring_modes", Some("modesNumber")),
-    ("kistrovu_join_log", Some("logNumber")),
-    ("kistrovu_replay", Some("replayNumber")),
-    ("kistrovu_card", Some("cardNumber")),
-    ("kistrovu_card_sized", Some("sizedNumber")),
-    ("kistrovu_widen_labels", Some("widenNumber")),
-    ("kistrovu_print_card", Some("textNumber")),
+    ("kistrovu_fit", Some("fit_number")),
+    ("kistrovu_verdict", Some("verdict_number")),
+    ("kistrovu_line_modes", Some("modes_number")),
+    ("kistrovu_ring_modes", Some("modes_number")),
+    ("kistrovu_join_log", Some("log_number")),
+    ("kistrovu_replay", Some("replay_number")),
+    ("kistrovu_card", Some("card_number")),
+    ("kistrovu_card_sized", Some("sized_number")),
+    ("kistrovu_widen_labels", Some("widen_number")),
+    ("kistrovu_print_card", Some("text_number")),
     ("kistrovu_print_ground", None),
 ];
 
@@ -97,7 +97,7 @@ fn sequence(text: &str, name: &str, names: &BTreeMap<String, u64>) -> Result<Vec
     for word in tokens(right) {
         if let Some(number) = names.get(&word) {
             found.push(*number);
-        } else if word.ends_with("Grounds") {
+        } else if word.ends_with("_grounds") {
             found.extend(sequence(text, &word, names)?);
         }
     }

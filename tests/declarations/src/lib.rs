@@ -23,13 +23,14 @@ use std::process::Command;
 
 /// The files that export something, or hold what an exported struct is made of, or a limit, in the order in which they
 /// rest on each other.
-pub const FILES: [&str; 7] = [
+pub const FILES: [&str; 8] = [
     "crates/pixel/src/lib.rt",
     "crates/verdict/src/lib.rt",
     "crates/palette/src/lib.rt",
     "crates/swatch/src/lib.rt",
     "crates/joinlog/src/lib.rt",
     "crates/kistrovu/src/lib.rt",
+    "crates/kistrovu_c/src/lib.rt",
     "crates/card/src/main.rt",
 ];
 

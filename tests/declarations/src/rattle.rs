@@ -69,15 +69,19 @@ impl Source {
     fn read_file(&mut self, cursor: &mut Cursor) -> Result<(), String> {
         while !cursor.is_at_end() {
             if cursor.passes("#[repr") {
-                cursor.expect("(C)] pub struct")?;
+                cursor.expect("(C)]")?;
+                if cursor.passes("#[derive") {
+                    cursor.expect("(Clone, Copy)]")?;
+                }
+                cursor.expect("pub struct")?;
                 let made = self.read_struct(cursor)?;
                 self.structs.push(made);
-            } else if cursor.passes("#[no_mangle]") {
+            } else if cursor.passes("#[unsafe(no_mangle)]") {
                 cursor.expect("pub extern \"C\" fn")?;
                 let made = self.read_call(cursor)?;
                 self.calls.push(made);
             } else if cursor.sees("no_mangle") || cursor.sees("extern") {
-                cursor.expect("#[no_mangle]")?;
+                cursor.expect("#[unsafe(no_mangle)]")?;
             } else if cursor.passes("const") {
                 self.read_constant(cursor)?;
             } else {

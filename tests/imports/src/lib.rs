@@ -1,6 +1,6 @@
 //! Imports that a file of Rattle or antt does not use.
 //!
-//! A name is used if it occurs as a word outside of imports and comments; for an operator such as `_+_`, each of its signs
+//! A name is used if it occurs as a word outside of imports and comments; for an operator such as `◌+◌`, each of its signs
 //! must occur. What `pub use` brings in is passed on, and counts as used.
 
 use std::collections::HashSet;
@@ -96,7 +96,7 @@ fn signs(name: &str) -> Vec<&str> {
     if plain {
         return vec![name];
     }
-    name.split('_').filter(|sign| !sign.is_empty()).collect()
+    name.split('◌').filter(|sign| !sign.is_empty()).collect()
 }
 
 /// A name without Rattle's `!` or `&` before it. Signs alone stay, such as `&&`.
