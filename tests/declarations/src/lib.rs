@@ -21,6 +21,10 @@ use std::fs;
 use std::path::{Path, PathBuf};
 use std::process::Command;
 
+/// The public calls, and their exports to C.
+pub const CALLS: &str = "crates/kistrovu/src/lib.rt";
+pub const EXPORTS: &str = "crates/kistrovu_c/src/lib.rt";
+
 /// The files that export something, or hold what an exported struct is made of, or a limit, in the order in which they
 /// rest on each other.
 pub const FILES: [&str; 8] = [
@@ -29,8 +33,8 @@ pub const FILES: [&str; 8] = [
     "crates/palette/src/lib.rt",
     "crates/swatch/src/lib.rt",
     "crates/joinlog/src/lib.rt",
-    "crates/kistrovu/src/lib.rt",
-    "crates/kistrovu_c/src/lib.rt",
+    CALLS,
+    EXPORTS,
     "crates/card/src/main.rt",
 ];
 

@@ -3,7 +3,7 @@
 use declarations::grounds::Grounds;
 use declarations::rattle::Source;
 use declarations::tokens::tokens;
-use declarations::{edited, read, root, Texts, FILES};
+use declarations::{edited, read, root, Texts, CALLS, EXPORTS, FILES};
 use std::fs;
 use std::path::Path;
 
@@ -17,7 +17,7 @@ fn all_that_is_marked_is_read() {
     let source = texts.source().expect("the source can be read");
     let total = |mark| texts.rattle.iter().map(|(_, text)| marks(text, mark)).sum();
     assert_eq!(source.structs.len(), total("#[repr(C)]"));
-    assert_eq!(source.calls.len(), total("#[no_mangle]"));
+    assert_eq!(source.calls.len(), total("#[unsafe(no_mangle)]"));
     let used = |made| source.is_answer(made) || source.is_held(made);
     let rest: Vec<_> = source.structs.iter().filter(|made| !used(made)).collect();
     assert_eq!(rest.len(), 1, "{rest:?}");
@@ -43,15 +43,38 @@ fn same(a: &Path, b: &Path) -> bool {
     a.canonicalize().ok() == b.canonicalize().ok()
 }
 
+/// The calls that a text declares, each with its arguments, its answer and its clauses, whatever the lines.
+fn declared(text: &str) -> Vec<String> {
+    let parts = text.replace("extern \"C\" ", "");
+    let calls = parts.split("\npub fn kistrovu_").skip(1);
+    let declared = calls.map(|call| call.split_once("\n{\n").expect("a call has a body").0);
+    let words = declared.map(|call| tokens(call).join(" "));
+    words.map(|call| call.replace(", )", ")")).collect()
+}
+
+/// C is handed the calls of the library under the same names, and nothing weaker is promised of them there.
+#[test]
+fn an_export_has_the_clauses_of_its_call() {
+    let [calls, exports] = [CALLS, EXPORTS].map(read);
+    assert_eq!(
+        declared(&calls).len(),
+        marks(&exports, "#[unsafe(no_mangle)]")
+    );
+    assert_eq!(declared(&calls), declared(&exports));
+    let weaker = edited(&exports, "result ≡ library_version", "result ≡ result");
+    assert_ne!(declared(&calls), declared(&weaker));
+}
+
 const SMALL: &str = "
 const MOST: usize = 2 + 3 * 4;
 #[repr(C)]
 pub struct Inner { pub small: u8, pub middle: u16, pub large: i64, pub last: bool, }
 // #[repr(C)] pub struct Comment
 #[repr(C)]
+#[derive(Clone, Copy)]
 pub struct Answer { pub number: u32, pub inner: [Inner; MOST], pub tail: [u8; 3], }
-#[no_mangle]
-pub extern \"C\" fn call(list: &[u32], places: &mut [u16], flag: bool) -> Answer ensures { λ r. ⌜ r ⌝ } { 0 }
+#[unsafe(no_mangle)]
+pub extern \"C\" fn call(list: &[u32], places: &mut [u16], flag: bool) -> Answer ensures { result ≡ said list.now } { 0 }
 ";
 
 #[test]
@@ -78,8 +101,18 @@ fn wrong_sources_are_refused() {
         ("-> Answer", "-> Said", "the type Said"),
         ("-> Answer", "", "`->` is expected"),
         ("&[u32]", "&u32", "`[` is expected"),
-        ("struct Answer", "enum Answer", "`(C)] pub struct`"),
-        ("#[no_mangle]\n", "", "`#[no_mangle]` is expected"),
+        ("struct Answer", "enum Answer", "`pub struct`"),
+        (
+            "#[repr(C)]\n#[derive",
+            "#[repr(u8)]\n#[derive",
+            "`(C)]` is expected",
+        ),
+        ("(Clone, Copy)", "(Clone)", "`(Clone, Copy)]` is expected"),
+        (
+            "#[unsafe(no_mangle)]\n",
+            "",
+            "`#[unsafe(no_mangle)]` is expected",
+        ),
         (
             "pub extern \"C\" fn",
             "pub fn",
@@ -97,8 +130,10 @@ fn wrong_sources_are_refused() {
 
 #[test]
 fn a_source_that_exports_nothing_is_refused() {
-    let (structs, _) = SMALL.split_once("#[no_mangle]").expect("there is a call");
-    let call = "#[no_mangle] pub extern \"C\" fn call() -> u32 { 0 }";
+    let (structs, _) = SMALL
+        .split_once("#[unsafe(no_mangle)]")
+        .expect("there is a call");
+    let call = "#[unsafe(no_mangle)] pub extern \"C\" fn call() -> u32 { 0 }";
     for text in ["", structs, call] {
         let found = Source::read([("small", text)]).expect_err(text);
         assert_eq!(found, "no struct or no call is exported");
@@ -115,19 +150,19 @@ fn a_changed_source_is_seen() {
             "KISTROVU_MOST_PRINTED",
         ),
         (
-            "crates/kistrovu/src/lib.rt",
+            EXPORTS,
             "kistrovu_card(pixels: &[u8], closeness: i32, labels: &mut [u16]",
             "kistrovu_card(pixels: &[u8], closeness: i32, labels: &mut [u8]",
             "is_kistrovu_card",
         ),
         (
-            "crates/kistrovu/src/lib.rt",
-            "kistrovu_card_sized(pixels: &[u8], width: u32, height: u32",
-            "kistrovu_card_sized(pixels: &[u8], width: i32, height: u32",
+            EXPORTS,
+            "    width: u32,\n    height: u32,",
+            "    width: i32,\n    height: u32,",
             "is_kistrovu_card_sized",
         ),
         (
-            "crates/kistrovu/src/lib.rt",
+            EXPORTS,
             "labels: &mut [u16]) -> u32",
             "labels: &mut [u16]) -> u8",
             "is_kistrovu_widen_labels",
@@ -139,9 +174,9 @@ fn a_changed_source_is_seen() {
             "the type of grey",
         ),
         (
-            "crates/kistrovu/src/lib.rt",
-            "kistrovu_ring_modes",
-            "kistrovu_rings",
+            EXPORTS,
+            "fn kistrovu_ring_modes",
+            "fn kistrovu_rings",
             "kistrovu_rings",
         ),
         (
@@ -163,7 +198,7 @@ fn a_changed_source_is_seen() {
             "the size of joins",
         ),
         (
-            "crates/kistrovu/src/lib.rt",
+            EXPORTS,
             "log: &[i64]",
             "log: &mut [i64]",
             "is_kistrovu_replay",
@@ -209,12 +244,12 @@ fn wrong_lists_of_grounds_are_refused() {
     let wrong = [
         edited(&right, "- **G9** ", "- **G10** "),
         edited(&right, "number = 9;", "number = 8;"),
-        edited(&right, "textNumber text = ", "wordNumber text = "),
+        edited(&right, "text_number text = ", "word_number text = "),
         edited(&right, "- **G20** ", "- **G12** "),
         edited(&right, "number = 20;", "number = 12;"),
         edited(
             &right,
-            "replayNumber e h log places = ",
+            "replay_number e h log places = ",
             "n e h log places = ",
         ),
         String::new(),
@@ -228,21 +263,21 @@ fn wrong_lists_of_grounds_are_refused() {
 fn a_changed_sequence_of_grounds_is_seen() {
     let texts = Texts::of_repository();
     let source = texts.source().expect("the source can be read");
-    let comments = read("crates/kistrovu/src/lib.rt");
+    let [calls, exports] = [CALLS, EXPORTS].map(read);
     let edits = [
         (
-            " ∷ badCloseness e ∷ fewPlaces h places ∷ [])",
-            " ∷ badCloseness e ∷ [])",
+            " ∷ bad_closeness e ∷ few_places h places ∷ [])",
+            " ∷ bad_closeness e ∷ [])",
             "kistrovu_line_modes",
         ),
-        (" ∷ otherLog e h log ∷ [])", " ∷ [])", "kistrovu_replay"),
+        (" ∷ other_log e h log ∷ [])", " ∷ [])", "kistrovu_replay"),
         (
-            "(badLabels (length narrow) places ∷ [])",
+            "(bad_labels (length narrow) places ∷ [])",
             "([])",
             "kistrovu_widen_labels",
         ),
     ];
-    for text in [&texts.header, &comments] {
+    for text in [&texts.header, &calls, &exports] {
         let said = |grounds: &str| Grounds::read(grounds)?.are_said(&source, text);
         assert_eq!(said(&texts.grounds), Ok(()));
         for (from, to, call) in edits {
