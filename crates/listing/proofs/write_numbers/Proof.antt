@@ -42,10 +42,10 @@ there c =
     omega (arith, c.listed_mode-m.ensures, mod-lt (s.args.from + l.loop-i.i) {m = length s.args.places.now} (omega (arith, c.loop-i-test.true)))
 
 mul-bin : tie.Need-offset_bounds-places-m invariant-loop decreases-loop
-mul-bin c = omega (arith, there c, (entry c).requires.0)
+mul-bin c = omega (arith, there c, (entry c.before.before).requires.0)
 
 shared-slice-read-bin : tie.Need-bounds-places-m invariant-loop decreases-loop
-shared-slice-read-bin c = there c
+shared-slice-read-bin c = there c.before
 
 cast-bin : tie.Need-overflow_cast-bin invariant-loop decreases-loop
 cast-bin c = omega (arith, c.shared_slice_known-in-loop-i-1.given c.listed_mode-m.result)

@@ -33,7 +33,7 @@ shape : (c : tie.Else-not-first)
 shape c = shape_is _ _ _ (there c)
 
 size : (c : tie.After-area_of-pixels) → size_of c.args.text.now ≡ c.area_of-pixels.result
-size c = let e = c in size_is _ _ _ (there e) ∙ sym c.area_of-pixels.ensures
+size c = let e = c in size_is _ _ _ (there e.before.before) ∙ sym c.area_of-pixels.ensures
 
 sized : (c : tie.Else-not-first)
     → swatch_number c.args.text.now
@@ -45,7 +45,7 @@ wide : (c : tie.Else-pixels)
     → swatch_number c.args.text.now
     ≡ cond (missing (pixel_bytes c.args.text.now)) 3 0
 unfolding most_swatch_pixels
-wide c = sized c ∙ rw (size c, size-good _ c.if-pixels-eq0.false c.if-pixels.false)
+wide c = sized c.before.before.before.before ∙ rw (size c.before.before, size-good _ c.if-pixels-eq0.false c.if-pixels.false)
 
 area-of-requires : tie.Need-area_of-pixels-requires
 area-of-requires c κs = search rules
@@ -53,19 +53,19 @@ area-of-requires c κs = search rules
 returns-2 : tie.Need-returns-then-pixels-eq0
 returns-2 c =
     let a = c in
-    (reading-refused _ 1 (sized a ∙ rw (size a, c.if-pixels-eq0.true)), λ z. absurd (omega arith))
+    (reading-refused _ 1 (sized a.before.before.before ∙ rw (size a.before, c.if-pixels-eq0.true)), λ z. absurd (omega arith))
 
 returns-3 : tie.Need-returns-then-pixels
 unfolding most_swatch_pixels
 returns-3 c =
     let a = c in
-    (reading-refused _ 1 (sized a ∙ rw (size a, size-large _ c.if-pixels.true)), λ z. absurd (omega arith))
+    (reading-refused _ 1 (sized a.before.before.before.before ∙ rw (size a.before.before, size-large _ c.if-pixels.true)), λ z. absurd (omega arith))
 
 pixel-lines-requires : tie.Need-pixel_lines-requires
 unfolding most_swatch_pixels
 pixel-lines-requires c κs =
     let e = c in
-    (sym (size c), omega (arith, c.if-pixels-eq0.false), c.if-pixels.false, omega (arith, c.if-pixels.false, e.requires))
+    (sym (size c.before.before.before), omega (arith, c.if-pixels-eq0.false), c.if-pixels.false, omega (arith, c.if-pixels.false, e.requires))
 
 same_length : tie.Need-shape_of-bytes-then-not-pixel_lines
 same_length c = search rules
@@ -74,7 +74,7 @@ returns-4 : tie.Need-returns-then-not-pixel_lines
 returns-4 c =
     let p = c in
     let bad : none ≡ pixel_bytes p.args.text.now = rw (c.if-not-pixel_lines.true) at p.pixel_lines.ensures in
-    (reading-refused _ 2 (wide p ∙ rw (← bad)), λ z. absurd (omega arith))
+    (reading-refused _ 2 (wide p.before.before.before.before.before ∙ rw (← bad)), λ z. absurd (omega arith))
 
 same-length-2 : tie.Need-shape_of-bytes
 same-length-2 c = search rules
@@ -84,9 +84,9 @@ unfolding bytes_of
 returns-5 c =
     let p = c in
     let text = p.args.text.now in
-    let shape-of = shape p in
+    let shape-of = shape p.before.before.before.before.before.before.before.before.before in
     let good = rw (c.if-not-pixel_lines.false) at p.pixel_lines.ensures in
-    (ap (λ (s : Shape). record { number = 0; shape = s }) (sym shape-of) ∙ reading-served text (wide p ∙ rw (← good)), λ z. rw (← p.area_of-pixels.ensures, ← good))
+    (ap (λ (s : Shape). record { number = 0; shape = s }) (sym shape-of) ∙ reading-served text (wide p.before.before.before.before.before ∙ rw (← good)), λ z. rw (← p.area_of-pixels.ensures, ← good))
 
 pub read_spec : {M : Type 1} → statement M
 read_spec =
