@@ -18,75 +18,75 @@ use Rattle.joinlog.proofs.line_log.Statement.{statement}
 use Rattle.joinlog.proofs.line_log.Tie as tie
 
 -- ---- the ways to the function's entry, to the first segments, and to the sheet
-abbrev entry : tie.After-first-segments → tie.Start
+abbrev entry : tie.After-first_segments-n → tie.Start
 entry c = c.before.before.before.before
 
-abbrev first : tie.After-copied-sheet → tie.After-first-segments
+abbrev first : tie.After-copied_sheet-sheet → tie.After-first_segments-n
 first c = c.before.before.before
 
-abbrev sheet-of : tie.After-write-joins → tie.After-copied-sheet
+abbrev sheet-of : tie.After-write_joins-joins → tie.After-copied_sheet-sheet
 sheet-of c = c.before.before.before.before.before
 
-slice-aggregate-first-segments : tie.Need-slice-aggregate-first-segments
+slice-aggregate-first-segments : tie.Need-slice_bounds-first_segments-end
 slice-aggregate-first-segments c = search rules
 
-slice-aggregate-first-segments-2 : tie.Need-slice-aggregate-first-segments-2
+slice-aggregate-first-segments-2 : tie.Need-slice_bounds-first_segments-end-2
 slice-aggregate-first-segments-2 c = search rules
 
-first-segments-requires : tie.Need-first-segments-requires
+first-segments-requires : tie.Need-first_segments-n-requires
 first-segments-requires c κs = search rules
 
-copied-sheet-requires : tie.Need-copied-sheet-requires
+copied-sheet-requires : tie.Need-copied_sheet-sheet-requires
 copied-sheet-requires c κs = search rules
 
-slice-aggregate-write-joins : tie.Need-slice-aggregate-write-joins
+slice-aggregate-write-joins : tie.Need-slice_bounds-write_joins-end
 slice-aggregate-write-joins c = search rules
 
-slice-aggregate-write-joins-2 : tie.Need-slice-aggregate-write-joins-2
+slice-aggregate-write-joins-2 : tie.Need-slice_bounds-write_joins-end-2
 slice-aggregate-write-joins-2 c = search rules
 
-write-joins-requires : tie.Need-write-joins-requires
+write-joins-requires : tie.Need-write_joins-joins-requires
 write-joins-requires c κs =
-    let sheet = c.before.before.before.before in
-    let f = first sheet in
-    let g = f.first-segments in
+    let sheet = c in
+    let f = first sheet.before.before.before.before in
+    let g = f.first_segments-n in
     let s = entry f in (
-      first-on-line _ s.args.setting s.args.h.now g.last.1.0 g.last.1.1.0 g.result
-          sheet.copied-sheet.ensures s.pre.1.1 s.pre.0 s.pre.1.0 (omega (arith, g.kept, s.pre.0)) (omega (arith, g.kept, s.pre.0)) g.ensures,
-      s.pre.1.2,
+      first-on-line _ s.args.setting s.args.h.now g.new.separators g.new.peaks g.result
+          sheet.copied_sheet-sheet.ensures s.requires.1.1 s.requires.0 s.requires.1.0 (omega (arith, g.auto, s.requires.0)) (omega (arith, g.auto, s.requires.0)) g.ensures,
+      s.requires.1.2,
     )
 
 -- the joins that are written are those of the line
-made-is : (c : tie.After-write-joins) → let s = entry (first (sheet-of c)) in
+made-is : (c : tie.After-write_joins-joins) → let s = entry (first (sheet-of c)) in
     let w = line_joins (closeness_of s.args.setting) (line_reader s.args.h.now) in
-    let g = (first (sheet-of c)).first-segments in
-    joins_made g.result w (segments_held g.last.1.0 g.last.1.1.0 0 g.result) ≡ made_on_line (closeness_of s.args.setting) s.args.h.now
+    let g = (first (sheet-of c)).first_segments-n in
+    joins_made g.result w (segments_held g.new.separators g.new.peaks 0 g.result) ≡ made_on_line (closeness_of s.args.setting) s.args.h.now
 unfolding made_on_line
 made-is c =
     let f = first (sheet-of c) in
     let s = entry f in
-    let g = f.first-segments in
-    made_held (line_joins (closeness_of s.args.setting) (line_reader s.args.h.now)) g.last.1.0 g.last.1.1.0 g.result (first_segments s.args.h.now) g.ensures
+    let g = f.first_segments-n in
+    made_held (line_joins (closeness_of s.args.setting) (line_reader s.args.h.now)) g.new.separators g.new.peaks g.result (first_segments s.args.h.now) g.ensures
 
-cast-result : tie.Need-overflow-cast-result
+cast-result : tie.Need-overflow_cast-result
 cast-result c =
-    let m = c.before.before.before in
-    let s = entry (first (sheet-of m)) in
-    let few = line-made-below (closeness_of s.args.setting) s.args.h.now s.pre.1.0 in
-    record { fits = omega (arith, m.write-joins.ensures.0, ap length (made-is m), few, s.pre.0) }
+    let m = c in
+    let s = entry (first (sheet-of m.before.before.before)) in
+    let few = line-made-below (closeness_of s.args.setting) s.args.h.now s.requires.1.0 in
+    record { fits = omega (arith, m.write_joins-joins.ensures.0, ap length (made-is m.before.before.before), few, s.requires.0) }
 
-same_length : tie.Need-same-length
+same_length : tie.Need-shape_of-log
 same_length c = search rules
 
 returns : tie.Need-returns
 unfolding line_log
 returns c =
-    let m = c.before.before.before in
-    let list = (entry (first (sheet-of m))).args.log.now in
-    (m.write-joins.ensures.0 ∙ ap length (made-is m), m.write-joins.ensures.1 ∙ ap (λ (js : List Join). over (log_of js) list) (made-is m))
+    let m = c in
+    let list = (entry (first (sheet-of m.before.before.before))).args.log.now in
+    (m.write_joins-joins.ensures.0 ∙ ap length (made-is m.before.before.before), m.write_joins-joins.ensures.1 ∙ ap (λ (js : List Join). over (log_of js) list) (made-is m.before.before.before))
 
-pub line-log-spec : {M : Type 1} → statement M
-line-log-spec =
+pub line_log_spec : {M : Type 1} → statement M
+line_log_spec =
     tie.close
     (tie.spec
     slice-aggregate-first-segments

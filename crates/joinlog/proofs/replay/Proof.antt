@@ -22,120 +22,120 @@ use Rattle.joinlog.proofs.replay.Statement.{statement}
 use Rattle.joinlog.proofs.replay.Tie as tie
 
 -- ---- the ways to the function's entry, to the first segments, to the sheet, and to the end of the log
-abbrev entry : tie.After-first-segments → tie.Start
+abbrev entry : tie.After-first_segments-n → tie.Start
 entry c = c.before.before.before.before.before
 
-abbrev first : tie.After-copied-sheet → tie.After-first-segments
+abbrev first : tie.After-copied_sheet-sheet → tie.After-first_segments-n
 first c = c.before.before.before
 
-abbrev sheet-of : tie.After-follow → tie.After-copied-sheet
+abbrev sheet-of : tie.After-follow-end → tie.After-copied_sheet-sheet
 sheet-of c = c.before.before.before.before
 
-abbrev followed : tie.Else1 → tie.After-follow
+abbrev followed : tie.Else-not-end → tie.After-follow-end
 followed c = c.before.before.before.before
 
-abbrev start : tie.After-follow → tie.Start
+abbrev start : tie.After-follow-end → tie.Start
 start c = entry (first (sheet-of c))
 
-abbrev close : tie.After-follow → Closeness
+abbrev close : tie.After-follow-end → Closeness
 close c = closeness_of (start c).args.setting
 
-abbrev bins : tie.After-follow → List ℕ
+abbrev bins : tie.After-follow-end → List ℕ
 bins c = (start c).args.h.now
 
 -- the log is followed if it is that of the line
-same-is : (c : tie.After-follow) → c.follow.result.followed ≡ same_numbers (start c).args.log.now (line_log (close c) (bins c))
+same-is : (c : tie.After-follow-end) → c.follow-end.result.followed ≡ same_numbers (start c).args.log.now (line_log (close c) (bins c))
 unfolding line_log made_on_line
 same-is c =
-    let g = (first (sheet-of c)).first-segments in
-    c.follow.ensures.0
+    let g = (first (sheet-of c)).first_segments-n in
+    c.follow-end.ensures.0
     ∙ ap (λ (js : List Join). same_numbers (start c).args.log.now (log_of js))
-    (made_held (line_joins (close c) (line_reader (bins c))) g.last.1.0 g.last.1.1.0 g.result (first_segments (bins c)) g.ensures)
+    (made_held (line_joins (close c) (line_reader (bins c))) g.new.separators g.new.peaks g.result (first_segments (bins c)) g.ensures)
 
 -- at its end the modes are held
-modes-held : (c : tie.Else1) →
+modes-held : (c : tie.Else-not-end) →
     let f = followed c in
-    segments_held f.follow.last.1.1.1.0 f.follow.last.1.1.1.1.0 0 f.follow.result.left ≡ line_modes (close f) (bins f)
+    segments_held f.follow-end.new.separators f.follow-end.new.peaks 0 f.follow-end.result.left ≡ line_modes (close f) (bins f)
 modes-held c =
     let f = followed c in
-    let g = (first (sheet-of f)).first-segments in
-    f.follow.ensures.1 (was-true _ c.if1.false) ∙ line-held (close f) (bins f) g.last.1.0 g.last.1.1.0 g.result g.ensures
+    let g = (first (sheet-of f)).first_segments-n in
+    f.follow-end.ensures.1 (was-true _ c.if-not-end.false) ∙ line-held (close f) (bins f) g.new.separators g.new.peaks g.result g.ensures
 
 -- fewer than bins
-few : (c : tie.Else1) → (followed c).follow.result.left < length (bins (followed c))
+few : (c : tie.Else-not-end) → (followed c).follow-end.result.left < length (bins (followed c))
 few c =
     let f = followed c in
-    held_below (close f) (bins f) _ _ f.follow.result.left (start f).pre.1.0 (modes-held c)
+    held_below (close f) (bins f) _ _ f.follow-end.result.left (start f).requires.1.0 (modes-held c)
 
-slice-aggregate-first-segments : tie.Need-slice-aggregate-first-segments
+slice-aggregate-first-segments : tie.Need-slice_bounds-first_segments-end
 slice-aggregate-first-segments c = search rules
 
-slice-aggregate-first-segments-2 : tie.Need-slice-aggregate-first-segments-2
+slice-aggregate-first-segments-2 : tie.Need-slice_bounds-first_segments-end-2
 slice-aggregate-first-segments-2 c = search rules
 
-first-segments-requires : tie.Need-first-segments-requires
+first-segments-requires : tie.Need-first_segments-n-requires
 first-segments-requires c κs = search rules
 
-copied-sheet-requires : tie.Need-copied-sheet-requires
+copied-sheet-requires : tie.Need-copied_sheet-sheet-requires
 copied-sheet-requires c κs = search rules
 
-slice-aggregate-follow : tie.Need-slice-aggregate-follow
+slice-aggregate-follow : tie.Need-slice_bounds-follow-end
 slice-aggregate-follow c = search rules
 
-slice-aggregate-follow-2 : tie.Need-slice-aggregate-follow-2
+slice-aggregate-follow-2 : tie.Need-slice_bounds-follow-end-2
 slice-aggregate-follow-2 c = search rules
 
-follow-requires : tie.Need-follow-requires
+follow-requires : tie.Need-follow-end-requires
 follow-requires c κs =
-    let sheet = c.before.before.before in
-    let f = first sheet in
-    let g = f.first-segments in
+    let sheet = c in
+    let f = first sheet.before.before.before in
+    let g = f.first_segments-n in
     let s = entry f in
-    first-on-line _ s.args.setting s.args.h.now g.last.1.0 g.last.1.1.0 g.result
-    sheet.copied-sheet.ensures s.pre.1.1 s.pre.0 s.pre.1.0 (omega (arith, g.kept, s.pre.0)) (omega (arith, g.kept, s.pre.0)) g.ensures
+    first-on-line _ s.args.setting s.args.h.now g.new.separators g.new.peaks g.result
+    sheet.copied_sheet-sheet.ensures s.requires.1.1 s.requires.0 s.requires.1.0 (omega (arith, g.auto, s.requires.0)) (omega (arith, g.auto, s.requires.0)) g.ensures
 
-returns : tie.Need-returns
-returns c = (sym (was-false _ c.if1.true) ∙ same-is c.before.before.before.before, refl, refl)
+returns : tie.Need-returns-then-not-end
+returns c = (sym (was-false _ c.if-not-end.true) ∙ same-is c.before.before.before.before, refl, refl)
 
-add-count : tie.Need-overflow-add-count
+add-count : tie.Need-overflow_add-count
 add-count c =
-    let e = c.before in
-    record { fits = omega (arith, few e, (start (followed e)).requires.0) }
+    let e = c in
+    record { fits = omega (arith, few e.before, (start (followed e.before)).requires.0) }
 
-slice-aggregate-copy-first : tie.Need-slice-aggregate-copy-first
+slice-aggregate-copy-first : tie.Need-slice_bounds-copy_first-end
 slice-aggregate-copy-first c = search rules
 
-copy-first-requires : tie.Need-copy-first-requires
+copy-first-requires : tie.Need-copy_first-requires
 copy-first-requires c κs =
-    let e = c.before.before.before in
-    let f = followed e in
-    let k = (first (sheet-of f)).first-segments.auto in
-    let p = (start f).pre in
-    (omega (arith, few e, p.0, k, f.follow.kept), omega (arith, few e, p.1))
+    let e = c in
+    let f = followed e.before.before.before in
+    let k = (first (sheet-of f)).first_segments-n.auto in
+    let p = (start f).requires in
+    (omega (arith, few e.before.before.before, p.0, k, f.follow-end.auto), omega (arith, few e.before.before.before, p.1))
 
-cast-t27 : tie.Need-overflow-cast-t27
+cast-t27 : tie.Need-overflow_cast-result
 cast-t27 c =
-    let e = c.before.before.before.before.before.before in
-    record { fits = omega (arith, few e, (start (followed e)).requires.0) }
+    let e = c in
+    record { fits = omega (arith, few e.before.before.before.before.before.before, (start (followed e.before.before.before.before.before.before)).requires.0) }
 
-same_length : tie.Need-same-length
+same_length : tie.Need-shape_of-list
 same_length c = search rules
 
-returns-2 : tie.Need-returns-2
+returns-2 : tie.Need-returns
 returns-2 c =
-    let e = c.before.before.before.before.before.before in
-    let f = followed e in
-    let two = (start f).pre.1.0 in
-    let k = (first (sheet-of f)).first-segments.auto in
-    let room : f.follow.result.left < length f.follow.last.1.1.1.0 = omega (arith, few e, (start f).pre.0, k, f.follow.kept) in (
-      sym (was-true _ e.if1.false) ∙ same-is f,
-      line-listed-length (close f) (bins f) _ _ f.follow.result.left two (modes-held e),
-      c.before.before.copy-first.ensures
-          ∙ ap (λ (xs : List ℕ). over xs (start f).args.list.now) (line-listed (close f) (bins f) _ _ f.follow.result.left two (modes-held e) room),
+    let e = c in
+    let f = followed e.before.before.before.before.before.before in
+    let two = (start f).requires.1.0 in
+    let k = (first (sheet-of f)).first_segments-n.auto in
+    let room : f.follow-end.result.left < length f.follow-end.new.separators = omega (arith, few e.before.before.before.before.before.before, (start f).requires.0, k, f.follow-end.auto) in (
+      sym (was-true _ e.if-not-end.false) ∙ same-is f,
+      line-listed-length (close f) (bins f) _ _ f.follow-end.result.left two (modes-held e.before.before.before.before.before.before),
+      c.copy_first.ensures
+          ∙ ap (λ (xs : List ℕ). over xs (start f).args.list.now) (line-listed (close f) (bins f) _ _ f.follow-end.result.left two (modes-held e.before.before.before.before.before.before) room),
     )
 
-pub replay-spec : {M : Type 1} → statement M
-replay-spec =
+pub replay_spec : {M : Type 1} → statement M
+replay_spec =
     tie.close
     (tie.spec
     slice-aggregate-first-segments

@@ -7,11 +7,11 @@ use Rattle.dividing.proofs.measuring.pixel_at.Tie as tie
 
 returns : tie.Need-returns
 returns c =
-    let a = c.before.before.before in
+    let a = c in
     sym (pixels-at a.args.pixels.now a.args.i a.requires)
 
-pub pixel-at-spec : {M : Type 1} → statement M
-pixel-at-spec =
+pub pixel_at_spec : {M : Type 1} → statement M
+pixel_at_spec =
     tie.close
     (tie.spec
     (λ c. search rules)

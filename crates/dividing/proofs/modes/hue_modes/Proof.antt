@@ -16,54 +16,54 @@ use borrow.Author.Rules.{rules}
 use Rattle.dividing.proofs.modes.hue_modes.Statement.{statement}
 use Rattle.dividing.proofs.modes.hue_modes.Tie as tie
 
-abbrev entry : tie.After-ring-modes → tie.Start
+abbrev entry : tie.After-ring_modes-found → tie.Start
 entry m = m.before.before.before.before
 
 -- ---- the ring, its modes, and how many they can be
-abbrev ring : tie.After-ring-modes → List ℕ
+abbrev ring : tie.After-ring_modes-found → List ℕ
 ring m = (entry m).args.t1
 
-bins : (m : tie.After-ring-modes) → length (ring m) ≡ bin_count hue
+bins : (m : tie.After-ring_modes-found) → length (ring m) ≡ bin_count hue
 bins m = search rules
 
-abbrev modes : tie.After-ring-modes → List Segment
+abbrev modes : tie.After-ring_modes-found → List Segment
 modes m = ring_modes (closeness_of (entry m).args.setting) (ring m)
 
-listed : (m : tie.After-ring-modes) → Lent (modes m) m.ring-modes.new.1.1.0 m.ring-modes.result.modes
-listed m = ring-lent (closeness_of (entry m).args.setting) (ring m) (omega (arith, bins m)) _ _ _ m.ring-modes.ensures.1 m.ring-modes.ensures.2
+listed : (m : tie.After-ring_modes-found) → Lent (modes m) m.ring_modes-found.new.places m.ring_modes-found.result.modes
+listed m = ring-lent (closeness_of (entry m).args.setting) (ring m) (omega (arith, bins m)) _ _ _ m.ring_modes-found.ensures.1 m.ring_modes-found.ensures.2
 
-few : (m : tie.After-ring-modes) → m.ring-modes.result.modes ≤ 31
+few : (m : tie.After-ring_modes-found) → m.ring_modes-found.result.modes ≤ 31
 few m = omega (arith, (listed m).count, modes-few (closeness_of (entry m).args.setting) hue (ring m) (bins m))
 
-ring-modes-requires : tie.Need-ring-modes-requires
+ring-modes-requires : tie.Need-ring_modes-found-requires
 unfolding most_pixels
 ring-modes-requires c κs =
-    let s = c.before.before.before in
+    let s = c in
     let long : length s.args.t1 ≡ bin_count hue = search rules in
     ((omega arith, omega arith, omega (arith, s.requires.0)), (s.requires.1, omega arith))
 
-array-share-prefix-places : tie.Need-array-share-prefix-places
-array-share-prefix-places c = let m = c.before in omega (arith, few m, m.ring-modes.auto.1.1.0)
+array-share-prefix-places : tie.Need-slice_bounds-places-end
+array-share-prefix-places c = let m = c in omega (arith, few m, m.ring_modes-found.auto.places)
 
-slice-aggregate-number-bins : tie.Need-slice-aggregate-number-bins
-slice-aggregate-number-bins c = sym (listed c.before.before).long
+slice-aggregate-number-bins : tie.Need-slice_bounds-number_bins-end
+slice-aggregate-number-bins c = sym (listed c).long
 
-number-bins-requires : tie.Need-number-bins-requires
+number-bins-requires : tie.Need-number_bins-requires
 number-bins-requires c κs =
-    let m = c.before.before.before in
+    let m = c in
     let l = listed m in
-    (l.rise, omega (arith, l.long, few m), omega (arith, m.ring-modes.ensures.0, opening-in (ring m) (omega (arith, bins m)), bins m), omega arith)
+    (l.rise, omega (arith, l.long, few m), omega (arith, m.ring_modes-found.ensures.0, opening-in (ring m) (omega (arith, bins m)), bins m), omega arith)
 
 returns : tie.Need-returns
 returns c =
-    let m = c.before.before.before.before.before.before in
-    let q = c.before.before.number-bins in
-    let same : length q.new.1.1.0 ≡ length (ring m) = omega (arith, q.auto.1.1.0, bins m) in
+    let m = c in
+    let q = c.number_bins in
+    let same : length q.new.modes ≡ length (ring m) = omega (arith, q.auto.modes, bins m) in
     rw (listed m).count
-    (ring-numbered (closeness_of (entry m).args.setting) (ring m) (omega (arith, bins m)) _ m.ring-modes.ensures.0 q.new.1.1.0 same (rw (listed m).starts at q.ensures))
+    (ring-numbered (closeness_of (entry m).args.setting) (ring m) (omega (arith, bins m)) _ m.ring_modes-found.ensures.0 q.new.modes same (rw (listed m).starts at q.ensures))
 
-pub hue-modes-spec : {M : Type 1} → statement M
-hue-modes-spec =
+pub hue_modes_spec : {M : Type 1} → statement M
+hue_modes_spec =
     tie.close
     (tie.spec
     (λ c. search rules)

@@ -10,22 +10,22 @@ use Rattle.dividing.proofs.modes.mode_at.Statement.{statement}
 use Rattle.dividing.proofs.modes.mode_at.Tie as tie
 
 -- where the function began, from either of its branches
-abbrev entry : tie.After-mode-after → tie.Start
+abbrev entry : tie.After-mode_after-next → tie.Start
 entry d = d.before.before
 
-cast-if1 : tie.Need-overflow-cast-if1
-cast-if1 c = omega (arith, c.shared-slice-known2.given c.before.mode-after.result)
+cast-if1 : tie.Need-overflow_cast-separators
+cast-if1 c = omega (arith, c.shared_slice_known-2-1.given c.mode_after-next.result)
 
 -- the mode after it begins here: some mode has begun then
-returns : tie.Need-returns
+returns : tie.Need-returns-then-separators-next
 returns c =
-    let d = c.before.before in
-    let at = (entry d).args.separators.now in
-    let i = (entry d).args.i in
-    let m = (entry d).args.m in
-    let b = (entry d).requires.1 in
-    let after = d.mode-after.ensures in
-    let next = d.mode-after.result in
+    let d = c in
+    let at = (entry d.before.before).args.separators.now in
+    let i = (entry d.before.before).args.i in
+    let m = (entry d.before.before).args.m in
+    let b = (entry d.before.before).requires.1 in
+    let after = d.mode_after-next.ensures in
+    let next = d.mode_after-next.result in
     let here : get_or at next 0 ≡ i = omega arith in
     let begun : get_or at 0 0 ≤ i =
     by_order (suc m) (length at)
@@ -37,19 +37,19 @@ returns c =
       mode = after.0;
       none_yet = λ l. absurd (omega arith);
       begun = λ l. omega arith;
-      not_next = λ l k. omega (arith, (entry d).requires.0.rises next k);
+      not_next = λ l k. omega (arith, (entry d.before.before).requires.0.rises next k);
     }
 
 -- it does not
-returns-2 : tie.Need-returns-2
+returns-2 : tie.Need-returns
 returns-2 c =
-    let d = c.before.before in
-    let at = (entry d).args.separators.now in
-    let i = (entry d).args.i in
-    let m = (entry d).args.m in
-    let b = (entry d).requires.1 in
-    let after = d.mode-after.ensures in
-    let next = d.mode-after.result in
+    let d = c in
+    let at = (entry d.before.before).args.separators.now in
+    let i = (entry d.before.before).args.i in
+    let m = (entry d.before.before).args.m in
+    let b = (entry d.before.before).requires.1 in
+    let after = d.mode_after-next.ensures in
+    let next = d.mode_after-next.result in
     let begun : get_or at 0 0 < suc i → get_or at 0 0 < i =
     λ l. by_order (get_or at 0 0) i (λ k. k)
     (λ k.
@@ -64,8 +64,8 @@ returns-2 c =
           omega (arith, b.not_next (begun l) k, ap (λ (z : ℕ). get_or at z 0) same);
     }
 
-pub mode-at-spec : {M : Type 1} → statement M
-mode-at-spec =
+pub mode_at_spec : {M : Type 1} → statement M
+mode_at_spec =
     tie.close
     (tie.spec
     (λ c κs. search rules)

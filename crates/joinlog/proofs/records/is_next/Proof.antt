@@ -11,28 +11,28 @@ use Rattle.joinlog.proofs.Numbers.{starts-short, starts-take, same-four}
 use Rattle.joinlog.proofs.records.is_next.Statement.{statement}
 use Rattle.joinlog.proofs.records.is_next.Tie as tie
 
-sub-if1 : tie.Need-overflow-sub-if1
+sub-if1 : tie.Need-overflow_sub-log
 sub-if1 c = search rules
 
-returns : tie.Need-returns
+returns : tie.Need-returns-then-log-at-lt-RECORD_NUMBERS
 returns c =
-    let a = c.before.args in
-    sym (starts-short (numbers_of a.join) (drop a.at a.log.now) (omega (arith, length-drop a.at a.log.now, c.before.requires)))
+    let a = c.args in
+    sym (starts-short (numbers_of a.join) (drop a.at a.log.now) (omega (arith, length-drop a.at a.log.now, c.requires)))
 
-record-at-requires : tie.Need-record-at-requires
+record-at-requires : tie.Need-record_at-requires
 record-at-requires c κs = search rules
 
-same-record-requires : tie.Need-same-record-requires
+same-record-requires : tie.Need-same_record-requires
 same-record-requires c κs = search rules
 
-returns-2 : tie.Need-returns-2
+returns-2 : tie.Need-returns
 returns-2 c =
-    let r = c.before.record-at in
-    let a = c.before.before.before.args in
-    c.same-record.ensures
+    let r = c.record_at in
+    let a = c.args in
+    c.same_record.ensures
     ∙ same-four a.join r.result
     ∙ ap (λ (xs : List ℤ). starts_with (numbers_of a.join) xs) r.ensures
     ∙ sym (starts-take (numbers_of a.join) (drop a.at a.log.now))
 
-pub is-next-spec : {M : Type 1} → statement M
-is-next-spec = tie.close (tie.spec sub-if1 returns record-at-requires same-record-requires returns-2)
+pub is_next_spec : {M : Type 1} → statement M
+is_next_spec = tie.close (tie.spec sub-if1 returns record-at-requires same-record-requires returns-2)

@@ -10,45 +10,45 @@ use Rattle.joinlog.proofs.Numbers.{four-written}
 use Rattle.joinlog.proofs.records.put_record.Statement.{statement}
 use Rattle.joinlog.proofs.records.put_record.Tie as tie
 
-mul-first : tie.Need-overflow-mul-first
+mul-first : tie.Need-offset_bounds-log-at
 mul-first c = search rules
 
-slice-set-from-first : tie.Need-slice-set-from-first
+slice-set-from-first : tie.Need-bounds-log-at
 slice-set-from-first c = search rules
 
-add-length : tie.Need-overflow-add-length
+add-length : tie.Need-overflow_add-length
 add-length c = search rules
 
-mul-length : tie.Need-overflow-mul-length
+mul-length : tie.Need-offset_bounds-log-at-2
 mul-length c = search rules
 
-slice-set-from-length : tie.Need-slice-set-from-length
-slice-set-from-length c = simp length-set (omega (arith, c.before.before.before.before.requires))
+slice-set-from-length : tie.Need-bounds-log-at-2
+slice-set-from-length c = simp length-set (omega (arith, c.requires))
 
-add-rise : tie.Need-overflow-add-rise
+add-rise : tie.Need-overflow_add-rise
 add-rise c = search rules
 
-mul-rise : tie.Need-overflow-mul-rise
+mul-rise : tie.Need-offset_bounds-log-at-3
 mul-rise c = search rules
 
-slice-set-from-rise : tie.Need-slice-set-from-rise
-slice-set-from-rise c = simp length-set (omega (arith, c.before.before.before.before.requires))
+slice-set-from-rise : tie.Need-bounds-log-at-3
+slice-set-from-rise c = simp length-set (omega (arith, c.requires))
 
-add-cost : tie.Need-overflow-add-cost
+add-cost : tie.Need-overflow_add-cost
 add-cost c = search rules
 
-mul-cost : tie.Need-overflow-mul-cost
+mul-cost : tie.Need-offset_bounds-log-at-4
 mul-cost c = search rules
 
-slice-set-from-cost : tie.Need-slice-set-from-cost
-slice-set-from-cost c = simp length-set (omega (arith, c.before.before.before.before.requires))
+slice-set-from-cost : tie.Need-bounds-log-at-4
+slice-set-from-cost c = simp length-set (omega (arith, c.requires))
 
-same_length : tie.Need-same-length
+same_length : tie.Need-shape_of-log
 same_length c = search rules
 
 -- each number is read from its bits as it is
-as-given : (c : tie.After-struct-told4) →
-    let j = c.before.before.before.before.args.join in
+as-given : (c : tie.After-struct_told-4-1) →
+    let j = c.args.join in
     (to_z w64 (of_z w64 j.first) ≡ j.first)
     × (to_z w64 (of_z w64 j.length) ≡ j.length)
     × (to_z w64 (of_z w64 j.rise) ≡ j.rise)
@@ -57,13 +57,13 @@ as-given c = (handed-back (omega arith), handed-back (omega arith), handed-back 
 
 returns : tie.Need-returns
 returns c =
-    let s = c.before.before.before.before in
+    let s = c in
     let j = s.args.join in
     rw ((as-given c).0, (as-given c).1, (as-given c).2, (as-given c).3)
     (four-written s.args.log.now s.args.at s.requires j.first j.length j.rise j.cost)
 
-pub put-record-spec : {M : Type 1} → statement M
-put-record-spec =
+pub put_record_spec : {M : Type 1} → statement M
+put_record_spec =
     tie.close
     (tie.spec
     mul-first

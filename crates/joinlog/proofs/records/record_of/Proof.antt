@@ -13,20 +13,20 @@ use Rattle.verdict.proofs.Machine.{handed-back}
 use Rattle.joinlog.proofs.records.record_of.Statement.{statement}
 use Rattle.joinlog.proofs.records.record_of.Tie as tie
 
-cast-t3 : tie.Need-overflow-cast-t3
+cast-t3 : tie.Need-overflow_cast-result
 cast-t3 c = search rules
 
-cast-t5 : tie.Need-overflow-cast-t5
+cast-t5 : tie.Need-overflow_cast-result-2
 cast-t5 c = search rules
 
 -- 0 for a fall and 1 for a rise
-by-rise : (c : tie.Joined1) → c.if1.t8 ≡ cond c.before.args.j.rise 1 0
+by-rise : (c : tie.Joined-j) → c.if-j.result-bits ≡ cond c.args.j.rise 1 0
 by-rise c =
-    let j = c.before.args.j in
+    let j = c.args.j in
     ⊎_elim
-    (λ w. w.1 ∙ sym (ap (λ (b : Bool). cond b 1 0) w.0.taken))
-    (λ w. w.1 ∙ sym (ap (λ (b : Bool). cond b 1 0) w.0.left))
-    c.if1.branch
+    (λ w. w.result-is-bits ∙ sym (ap (λ (b : Bool). cond b 1 0) w.if-j.true))
+    (λ w. w.result-is-bits ∙ sym (ap (λ (b : Bool). cond b 1 0) w.if-j.false))
+    c.if-j.branch-raw
 
 small : (b : Bool) → cond b 1 0 < 2 ^ 63
 small true = omega arith
@@ -34,11 +34,11 @@ small false = omega arith
 
 returns : tie.Need-returns
 returns c =
-    let s = c.before.before in
+    let s = c in
     let j = s.args.j in
-    let rise : to_z w64 c.before.if1.t8 ≡ pos (cond j.rise 1 0) = ap (λ (n : ℕ). to_z w64 n) (by-rise c.before) ∙ to_z_pos w64 _ (small j.rise) in
+    let rise : to_z w64 c.if-j.result-bits ≡ pos (cond j.rise 1 0) = ap (λ (n : ℕ). to_z w64 n) (by-rise c.before) ∙ to_z_pos w64 _ (small j.rise) in
     let cost : to_z w64 (of_z w64 j.cost) ≡ j.cost = handed-back (omega arith) in
     rw (to_z_pos w64 j.first (omega (arith, s.requires)), to_z_pos w64 j.len (omega (arith, s.requires)), rise, cost) refl
 
-pub record-of-spec : {M : Type 1} → statement M
-record-of-spec = tie.close (tie.spec cast-t3 cast-t5 returns)
+pub record_of_spec : {M : Type 1} → statement M
+record_of_spec = tie.close (tie.spec cast-t3 cast-t5 returns)

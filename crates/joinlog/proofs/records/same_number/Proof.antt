@@ -6,5 +6,5 @@ use Rattle.joinlog.proofs.records.same_number.Tie as tie
 returns : tie.Need-returns
 returns c = same_bits c.args.x c.args.y c.ranges.x c.ranges.y
 
-pub same-number-spec : {M : Type 1} → statement M
-same-number-spec = tie.close (tie.spec returns)
+pub same_number_spec : {M : Type 1} → statement M
+same_number_spec = tie.close (tie.spec returns)

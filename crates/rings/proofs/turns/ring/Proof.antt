@@ -26,16 +26,16 @@ use Rattle.rings.proofs.turns.ring.Statement.{statement}
 use Rattle.rings.proofs.turns.ring.Tie as tie
 
 -- ---- the ways to the function's entry, to the first segments, and to the sheet
-abbrev entry : tie.After-first-segments → tie.Start
-entry c = c.before.before.before.before.before.before.before.before
+abbrev entry : tie.After-first_segments-n → tie.Start
+entry c = c.before.before.before.before.before.before.before
 
-abbrev first : tie.After-copied-sheet → tie.After-first-segments
+abbrev first : tie.After-copied_sheet-sheet → tie.After-first_segments-n
 first c = c.before.before.before.before.before.before
 
-abbrev sheet : tie.After-join-all → tie.After-copied-sheet
-sheet c = c.before.before.before.before.before
+abbrev sheet : tie.After-join_all-left → tie.After-copied_sheet-sheet
+sheet c = c.before.before.before.before
 
-abbrev finished : tie.After-join-round → tie.After-join-all
+abbrev finished : tie.After-join_round → tie.After-join_all-left
 finished c = c.before.before.before.before.before.before.before.before
 
 -- ---- the ring and its line
@@ -54,133 +54,133 @@ long s = ring-length (bins s) (omega (arith, s.requires.0))
 two : (s : tie.Start) → 2 ≤ length (opened (bins s))
 two s = omega (arith, long s, s.requires.0)
 
-add-end : tie.Need-overflow-add-end
+add-end : tie.Need-overflow_add-end
 add-end c = search rules
 
-slice-aggregate-first-segments : tie.Need-slice-aggregate-first-segments
-slice-aggregate-first-segments c = let s = c.before.before.before.before.before in rw (line-is s) (omega (arith, long s))
+slice-aggregate-first-segments : tie.Need-slice_bounds-first_segments-end
+slice-aggregate-first-segments c = let s = c in rw (line-is s.before.before.before.before) (omega (arith, long s.before.before.before.before))
 
-first-segments-requires : tie.Need-first-segments-requires
+first-segments-requires : tie.Need-first_segments-n-requires
 first-segments-requires c κs =
-    let s = c.before.before.before.before.before.before.before in
+    let s = c in
     let p = s.requires in
-    rw (line-is s) (two s, omega (arith, long s, p.0), omega (arith, long s, p.0, p.1), omega (arith, long s, p.0, p.1))
+    rw (line-is s.before.before.before.before.before.before) (two s.before.before.before.before.before.before, omega (arith, long s.before.before.before.before.before.before, p.0), omega (arith, long s.before.before.before.before.before.before, p.0, p.1), omega (arith, long s.before.before.before.before.before.before, p.0, p.1))
 
 -- ---- the first segments
-held : (c : tie.After-first-segments) → segments_held c.first-segments.new.1.0 c.first-segments.new.1.1.0 0 c.first-segments.result ≡ first_segments (opened (bins (entry c)))
-held c = c.first-segments.ensures ∙ ap first_segments (line-is (entry c))
+held : (c : tie.After-first_segments-n) → segments_held c.first_segments-n.new.separators c.first_segments-n.new.peaks 0 c.first_segments-n.result ≡ first_segments (opened (bins (entry c)))
+held c = c.first_segments-n.ensures ∙ ap first_segments (line-is (entry c))
 
-count : (c : tie.After-first-segments) → length (first_segments (opened (bins (entry c)))) ≡ c.first-segments.result
-count c = sym (ap length (held c)) ∙ held-length c.first-segments.new.1.0 c.first-segments.new.1.1.0 0 c.first-segments.result
+count : (c : tie.After-first_segments-n) → length (first_segments (opened (bins (entry c)))) ≡ c.first_segments-n.result
+count c = sym (ap length (held c)) ∙ held-length c.first_segments-n.new.separators c.first_segments-n.new.peaks 0 c.first_segments-n.result
 
-same_length : tie.Need-same-length
+same_length : tie.Need-shape_of-separators-then-n-lt2
 same_length c = search rules
 
-same-length-2 : tie.Need-same-length-2
+same-length-2 : tie.Need-shape_of-peaks-then-n-lt2
 same-length-2 c = search rules
 
-returns : tie.Need-returns
+returns : tie.Need-returns-then-n-lt2
 returns c =
-    let f = c.before.before.before.before.before in
-    let s = entry f in
-    let few : length (first_segments (opened (bins s))) ≤ 1 = omega (arith, count f) in
+    let f = c in
+    let s = entry f.before.before.before.before.before in
+    let few : length (first_segments (opened (bins s))) ≤ 1 = omega (arith, count f.before.before.before.before.before) in
     let line = one_kept (close s) (opened (bins s)) few in
-    held f ∙ sym (ring-one-kept (close s) (bins s) (omega (arith, ap length line)) ∙ line)
+    held f.before.before.before.before.before ∙ sym (ring-one-kept (close s) (bins s) (omega (arith, ap length line)) ∙ line)
 
-copied-sheet-requires : tie.Need-copied-sheet-requires
+copied-sheet-requires : tie.Need-copied_sheet-sheet-requires
 copied-sheet-requires c κs = search rules
 
-slice-aggregate-join-all : tie.Need-slice-aggregate-join-all
-slice-aggregate-join-all c = let s = entry (first c.before.before) in rw (line-is s) (omega (arith, long s))
+slice-aggregate-join-all : tie.Need-slice_bounds-join_all-end
+slice-aggregate-join-all c = let s = entry (first c.before) in rw (line-is s) (omega (arith, long s))
 
-join-all-requires : tie.Need-join-all-requires
+join-all-requires : tie.Need-join_all-left-requires
 join-all-requires c κs =
-    let sh = c.before.before.before.before in
-    let f = first sh in
+    let sh = c in
+    let f = first sh.before.before.before in
     let s = entry f in
-    let p = s.pre in
-    let g = f.first-segments in
-    rw (line-is s) (first-on-line _ s.args.setting (opened (bins s)) g.last.1.0 g.last.1.1.0 g.result
-    sh.copied-sheet.ensures p.1.0 (ring-small (bins s) p.0.0 p.0.1 p.0.2) (two s) (omega (arith, long s, p.0, p.1, g.kept)) (omega (arith, long s, p.0, p.1, g.kept)) (held f))
+    let p = s.requires in
+    let g = f.first_segments-n in
+    rw (line-is s) (first-on-line _ s.args.setting (opened (bins s)) g.new.separators g.new.peaks g.result
+    sh.copied_sheet-sheet.ensures p.1.0 (ring-small (bins s) p.0.0 p.0.1 p.0.2) (two s) (omega (arith, long s, p.0, p.1, g.auto)) (omega (arith, long s, p.0, p.1, g.auto)) (held f))
 
 -- ---- the modes of the line
-line-modes : (c : tie.After-join-all)
-    → segments_held c.join-all.new.1.1.1.0 c.join-all.new.1.1.1.1.0 0 c.join-all.result ≡ line_modes (close (entry (first (sheet c)))) (opened (bins (entry (first (sheet c)))))
+line-modes : (c : tie.After-join_all-left)
+    → segments_held c.join_all-left.new.separators c.join_all-left.new.peaks 0 c.join_all-left.result ≡ line_modes (close (entry (first (sheet c)))) (opened (bins (entry (first (sheet c)))))
 line-modes c =
     let f = first (sheet c) in
     let s = entry f in
-    let g = f.first-segments in
-    rw (line-is s) at c.join-all.ensures.0 ∙ line-held (close s) (opened (bins s)) g.last.1.0 g.last.1.1.0 g.result (held f)
+    let g = f.first_segments-n in
+    rw (line-is s) at c.join_all-left.ensures.0 ∙ line-held (close s) (opened (bins s)) g.new.separators g.new.peaks g.result (held f)
 
-modes-few : (c : tie.After-join-all) → c.join-all.result ≤ length (bins (entry (first (sheet c))))
+modes-few : (c : tie.After-join_all-left) → c.join_all-left.result ≤ length (bins (entry (first (sheet c))))
 modes-few c =
     let s = entry (first (sheet c)) in
-    let j = c.join-all in
+    let j = c.join_all-left in
     omega (
       arith,
-      held-length j.new.1.1.1.0 j.new.1.1.1.1.0 0 j.result,
+      held-length j.new.separators j.new.peaks 0 j.result,
       ap length (line-modes c),
       cut-count (modes-cut (close s) (opened (bins s)) (two s)),
       long s,
     )
 
 -- no run of them is joinable, read round
-none_left : (c : tie.After-join-all)
+none_left : (c : tie.After-join_all-left)
     → NoneAmong (close (entry (first (sheet c)))) (line_reader (entry (first (sheet c))).args.round.now)
-    (segments_held c.join-all.new.1.1.1.0 c.join-all.new.1.1.1.1.0 0 c.join-all.result) c.join-all.result
+    (segments_held c.join_all-left.new.separators c.join_all-left.new.peaks 0 c.join_all-left.result) c.join_all-left.result
 none_left c =
     let s = entry (first (sheet c)) in
-    let j = c.join-all in
+    let j = c.join_all-left in
     let e = close s in
-    let modes = segments_held j.new.1.1.1.0 j.new.1.1.1.1.0 0 j.result in
-    subst (λ (round : List ℕ). NoneAmong e (line_reader round) modes j.result) (sym s.pre.0.3)
-    (subst (NoneAmong e (round_reader (bins s)) modes) (held-length j.new.1.1.1.0 j.new.1.1.1.1.0 0 j.result)
-    (subst (λ (ss : List Segment). NoneAmong e (round_reader (bins s)) ss (length ss)) (sym (line-modes c)) (line-none (bins s) s.pre.0.0 e)))
+    let modes = segments_held j.new.separators j.new.peaks 0 j.result in
+    subst (λ (round : List ℕ). NoneAmong e (line_reader round) modes j.result) (sym s.requires.0.3)
+    (subst (NoneAmong e (round_reader (bins s)) modes) (held-length j.new.separators j.new.peaks 0 j.result)
+    (subst (λ (ss : List Segment). NoneAmong e (round_reader (bins s)) ss (length ss)) (sym (line-modes c)) (line-none (bins s) s.requires.0.0 e)))
 
-join-round-requires : tie.Need-join-round-requires
+join-round-requires : tie.Need-join_round-requires
 unfolding two_turns
 join-round-requires c κs =
-    let j = c.before.before.before.before.before.before.before in
-    let sh = sheet j in
+    let j = c in
+    let sh = sheet j.before.before.before.before.before.before.before in
     let s = entry (first sh) in
-    let p = s.pre in
+    let p = s.requires in
     let one : 1 ≤ length (bins s) = omega (arith, p.0) in
-    let k = (first sh).first-segments.kept in
-    let l = j.join-all.auto in (
+    let k = (first sh).first_segments-n.auto in
+    let l = j.join_all-left.auto in (
       record {
         turn = from_opening (bins s);
         turns = p.0.3;
         as_long = opening-length (bins s) one;
         limits = (p.0.1, omega (arith, opening-total (bins s), p.0));
         prepared = record {
-          logs = sh.copied-sheet.ensures;
+          logs = sh.copied_sheet-sheet.ensures;
           close = p.1.0;
-          places = (omega (arith, modes-few j, p.0, p.1, k, l), omega (arith, modes-few j, p.0, p.1, k, l));
+          places = (omega (arith, modes-few j.before.before.before.before.before.before.before, p.0, p.1, k, l), omega (arith, modes-few j.before.before.before.before.before.before.before, p.0, p.1, k, l));
         };
-        on_ring = subst (OnRing (length (bins s)) (from_opening (bins s))) (sym (line-modes j)) (line-on-ring (bins s) p.0.0 (close s));
+        on_ring = subst (OnRing (length (bins s)) (from_opening (bins s))) (sym (line-modes j.before.before.before.before.before.before.before)) (line-on-ring (bins s) p.0.0 (close s));
       },
-      none_left j,
+      none_left j.before.before.before.before.before.before.before,
     )
 
-same-length-3 : tie.Need-same-length-3
+same-length-3 : tie.Need-shape_of-separators
 same-length-3 c = search rules
 
-same-length-4 : tie.Need-same-length-4
+same-length-4 : tie.Need-shape_of-peaks
 same-length-4 c = search rules
 
-returns-2 : tie.Need-returns-2
+returns-2 : tie.Need-returns
 returns-2 c =
-    let r = c.before.before.before.before in
-    let j = finished r in
+    let r = c in
+    let j = finished r.before.before.before.before in
     let s = entry (first (sheet j)) in
-    let f = j.join-all in
-    let ss = segments_held f.last.1.1.1.0 f.last.1.1.1.1.0 0 f.result in
-    r.join-round.ensures.0
-    ∙ ap (λ (round : List ℕ). join_all f.result (ring_joins (close s) (line_reader round) (length (bins s))) ss) s.pre.0.3
-    ∙ ring-held (close s) (bins s) f.last.1.1.1.0 f.last.1.1.1.1.0 f.result (line-modes j)
+    let f = j.join_all-left in
+    let ss = segments_held f.new.separators f.new.peaks 0 f.result in
+    r.join_round.ensures.0
+    ∙ ap (λ (round : List ℕ). join_all f.result (ring_joins (close s) (line_reader round) (length (bins s))) ss) s.requires.0.3
+    ∙ ring-held (close s) (bins s) f.new.separators f.new.peaks f.result (line-modes j)
 
-pub ring-spec : {M : Type 1} → statement M
-ring-spec =
+pub ring_spec : {M : Type 1} → statement M
+ring_spec =
     tie.close
     (tie.spec
     add-end

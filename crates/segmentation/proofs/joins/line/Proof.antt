@@ -15,64 +15,64 @@ use Rattle.segmentation.proofs.Stepping.{first-on-line}
 use Rattle.segmentation.proofs.joins.line.Statement.{statement}
 use Rattle.segmentation.proofs.joins.line.Tie as tie
 
-first-segments-requires : tie.Need-first-segments-requires
+first-segments-requires : tie.Need-first_segments-n-requires
 first-segments-requires c κs = search rules
 
 -- from the test of their number back to the first segments, and from there to the function's entry
-abbrev found : tie.After-slice-known4 → tie.After-first-segments
+abbrev found : tie.After-slice_known-4-1 → tie.After-first_segments-n
 found c = c.before.before.before.before
 
-abbrev entry : tie.After-first-segments → tie.Start
+abbrev entry : tie.After-first_segments-n → tie.Start
 entry c = c.before.before.before.before.before.before
 
 -- joining the first segments gives the modes
-modes-are : (c : tie.After-first-segments) →
-    let f = c.first-segments in
-    join_all f.result (line_joins (closeness_of (entry c).args.setting) (line_reader (entry c).args.h.now)) (segments_held f.new.1.0 f.new.1.1.0 0 f.result)
+modes-are : (c : tie.After-first_segments-n) →
+    let f = c.first_segments-n in
+    join_all f.result (line_joins (closeness_of (entry c).args.setting) (line_reader (entry c).args.h.now)) (segments_held f.new.separators f.new.peaks 0 f.result)
     ≡ line_modes (closeness_of (entry c).args.setting) (entry c).args.h.now
 modes-are c =
     let a = (entry c).args in
-    let f = c.first-segments in
-    line-held (closeness_of a.setting) a.h.now f.new.1.0 f.new.1.1.0 f.result f.ensures
+    let f = c.first_segments-n in
+    line-held (closeness_of a.setting) a.h.now f.new.separators f.new.peaks f.result f.ensures
 
-same_length : tie.Need-same-length
+same_length : tie.Need-shape_of-separators-then-n-lt2
 same_length c = search rules
 
-same-length-2 : tie.Need-same-length-2
+same-length-2 : tie.Need-shape_of-peaks-then-n-lt2
 same-length-2 c = search rules
 
-returns : tie.Need-returns
+returns : tie.Need-returns-then-n-lt2
 returns c =
     let at = found c.before in
     let a = (entry at).args in
-    let f = at.first-segments in
-    let few : length (first_segments a.h.now) ≤ 1 = omega (arith, ap length f.ensures, held-length f.last.1.0 f.last.1.1.0 0 f.result) in
+    let f = at.first_segments-n in
+    let few : length (first_segments a.h.now) ≤ 1 = omega (arith, ap length f.ensures, held-length f.new.separators f.new.peaks 0 f.result) in
     f.ensures ∙ sym (one_kept (closeness_of a.setting) a.h.now few)
 
-copied-sheet-requires : tie.Need-copied-sheet-requires
+copied-sheet-requires : tie.Need-copied_sheet-sheet-requires
 copied-sheet-requires c κs = search rules
 
-join-all-requires : tie.Need-join-all-requires
+join-all-requires : tie.Need-join_all-requires
 join-all-requires c κs =
     let at = found c.before.before.before.before.before in
     let s = entry at in
-    let f = at.first-segments in
-    first-on-line _ s.args.setting s.args.h.now f.last.1.0 f.last.1.1.0 f.result
-    c.before.before.before.copied-sheet.ensures s.pre.1.0.1 s.pre.0 s.pre.1.0.0 (omega (arith, s.pre, f.kept)) (omega (arith, s.pre, f.kept)) f.ensures
+    let f = at.first_segments-n in
+    first-on-line _ s.args.setting s.args.h.now f.new.separators f.new.peaks f.result
+    c.before.before.before.copied_sheet-sheet.ensures s.requires.1.0.1 s.requires.0 s.requires.1.0.0 (omega (arith, s.requires, f.auto)) (omega (arith, s.requires, f.auto)) f.ensures
 
-same-length-3 : tie.Need-same-length-3
+same-length-3 : tie.Need-shape_of-separators
 same-length-3 c = search rules
 
-same-length-4 : tie.Need-same-length-4
+same-length-4 : tie.Need-shape_of-peaks
 same-length-4 c = search rules
 
-returns-2 : tie.Need-returns-2
+returns-2 : tie.Need-returns
 returns-2 c =
     let joined = c.before.before.before.before in
-    joined.join-all.ensures.0 ∙ modes-are (found joined.before.before.before.before.before.before)
+    joined.join_all.ensures.0 ∙ modes-are (found joined.before.before.before.before.before.before)
 
-pub line-spec : {M : Type 1} → statement M
-line-spec =
+pub line_spec : {M : Type 1} → statement M
+line_spec =
     tie.close
     (tie.spec
     first-segments-requires

@@ -11,7 +11,7 @@ use Rattle.segmentation.proofs.Stepping.{on-line-count}
 use Rattle.segmentation.proofs.joins.next_on_line.Statement.{statement}
 use Rattle.segmentation.proofs.joins.next_on_line.Tie as tie
 
-next-join-requires : tie.Need-next-join-requires
+next-join-requires : tie.Need-next_join-requires
 next-join-requires c κs =
     let s = c.before.before.before in
     let a = s.args in
@@ -29,9 +29,9 @@ unfolding next_join
 returns c =
     let s = c.before.before.before.before in
     let a = s.args in
-    c.next-join.ensures
+    c.next_join.ensures
     ∙ ap (next_among (closeness_of a.setting) (line_reader a.h.now) (segments_held a.separators.now a.peaks.now 0 a.n) false)
     (sym (held-length a.separators.now a.peaks.now 0 a.n))
 
-pub next-on-line-spec : {M : Type 1} → statement M
-next-on-line-spec = tie.close (tie.spec next-join-requires returns)
+pub next_on_line_spec : {M : Type 1} → statement M
+next_on_line_spec = tie.close (tie.spec next-join-requires returns)

@@ -15,7 +15,7 @@ returns c =
     let s = c.before in
     let x = to_z-of_z w64 s.args.rise s.ranges.rise in
     let y = to_z-of_z w64 s.args.fall s.ranges.fall in
-    rw (x, y, handed-back c.smaller.type-inv, c.smaller.ensures, x, y) refl
+    rw (x, y, handed-back c.smaller.type_inv, c.smaller.ensures, x, y) refl
 
-pub by-costs-spec : {M : Type 1} → statement M
-by-costs-spec = tie.close (tie.spec smaller-requires returns)
+pub by_costs_spec : {M : Type 1} → statement M
+by_costs_spec = tie.close (tie.spec smaller-requires returns)

@@ -9,22 +9,22 @@ use Rattle.segmentation.proofs.RunsInside.{part-some}
 use Rattle.segmentation.proofs.runs.stretch_cost.Statement.{statement}
 use Rattle.segmentation.proofs.runs.stretch_cost.Tie as tie
 
-add-capped-cost : tie.Need-overflow-add-capped-cost
+add-capped-cost : tie.Need-overflow_add-j
 add-capped-cost c = search rules
 
-mul-capped-cost : tie.Need-overflow-mul-capped-cost
+mul-capped-cost : tie.Need-offset_bounds-h-i
 mul-capped-cost c = search rules
 
-sub-capped-cost : tie.Need-overflow-sub-capped-cost
+sub-capped-cost : tie.Need-slice_bounds-capped_cost-count
 sub-capped-cost c = search rules
 
-part-capped-cost-start : tie.Need-slice-bounds-capped-cost-start
+part-capped-cost-start : tie.Need-slice_bounds-capped_cost-start
 part-capped-cost-start c = search rules
 
-part-capped-cost-end : tie.Need-slice-bounds-capped-cost-end
+part-capped-cost-end : tie.Need-slice_bounds-capped_cost-end
 part-capped-cost-end c = search rules
 
-capped-cost-requires : tie.Need-capped-cost-requires
+capped-cost-requires : tie.Need-capped_cost-requires
 unfolding part
 capped-cost-requires c κs =
     let s = c.before.before in
@@ -37,10 +37,10 @@ returns : tie.Need-returns
 unfolding part
 returns c =
     let s = c.before.before.before in
-    rw (handed-back c.capped-cost.type-inv) (rw (to_z-of_z w64 s.args.cap s.ranges.cap, add-one) at c.capped-cost.ensures)
+    rw (handed-back c.capped_cost.type_inv) (rw (to_z-of_z w64 s.args.cap s.ranges.cap, add-one) at c.capped_cost.ensures)
 
-pub stretch-cost-spec : {M : Type 1} → statement M
-stretch-cost-spec =
+pub stretch_cost_spec : {M : Type 1} → statement M
+stretch_cost_spec =
     tie.close
     (tie.spec
     add-capped-cost

@@ -5,14 +5,14 @@ use borrow.Author.Tests.{lt-ltb, le-ltb}
 use Rattle.swatch.proofs.printing.column.Statement.{statement}
 use Rattle.swatch.proofs.printing.column.Tie as tie
 
-returns : tie.Need-returns
-returns c = rw (lt-ltb _ _ c.if1.true) refl
+returns : tie.Need-returns-then-value-unit
+returns c = rw (lt-ltb _ _ c.if-value-unit.true) refl
 
 digit-requires : tie.Need-digit-requires
 digit-requires c κs = search rules
 
-returns-2 : tie.Need-returns-2
-returns-2 c = rw (le-ltb _ _ c.before.if1.false) c.digit.ensures
+returns-2 : tie.Need-returns
+returns-2 c = rw (le-ltb _ _ c.if-value-unit.false) c.digit.ensures
 
-pub column-spec : {M : Type 1} → statement M
-column-spec = tie.close (tie.spec returns digit-requires returns-2)
+pub column_spec : {M : Type 1} → statement M
+column_spec = tie.close (tie.spec returns digit-requires returns-2)

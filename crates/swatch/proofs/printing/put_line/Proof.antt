@@ -13,62 +13,62 @@ use Rattle.swatch.proofs.PrintedLengths.{field-length, fields-length, line-lengt
 use Rattle.swatch.proofs.printing.put_line.Statement.{statement}
 use Rattle.swatch.proofs.printing.put_line.Tie as tie
 
-abbrev invariant-loop : tie.invariant-loop
+abbrev invariant-loop : tie.invariant-loop-i
 invariant-loop values at out₀ place₀ i₀ out place i =
     (i ≤ length values) × (place ≡ at + 6 * i) × (length out ≡ length out₀) × (out ≡ over (take at out₀ ++ flat_map printed_field (take i values)) out₀)
 
-abbrev decreases-loop : tie.decreases-loop
+abbrev decreases-loop : tie.decreases-loop-i
 decreases-loop values at out₀ place₀ i₀ out place i = length values - i
 
-loop-holds : tie.Need-loop-init invariant-loop decreases-loop
+loop-holds : tie.Need-loop-i-init invariant-loop decreases-loop
 unfolding flat_map
 loop-holds c =
-    let s = c.before.before in
+    let s = c in
     (omega arith, omega arith, refl, sym (write-none s.args.at s.args.out.now (omega (arith, s.requires))))
 
-mul-put-field : tie.Need-overflow-mul-put-field invariant-loop decreases-loop
+mul-put-field : tie.Need-offset_bounds-values-i invariant-loop decreases-loop
 mul-put-field c = search rules
 
-shared-slice-read-put-field : tie.Need-shared-slice-read-put-field invariant-loop decreases-loop
+shared-slice-read-put-field : tie.Need-bounds-values-i invariant-loop decreases-loop
 shared-slice-read-put-field c = search rules
 
-put-field-requires : tie.Need-put-field-requires invariant-loop decreases-loop
-put-field-requires c κs = omega (arith, c.before.before.before.loop.invariant, c.before.before.before.before.before.before.requires)
+put-field-requires : tie.Need-put_field-requires invariant-loop decreases-loop
+put-field-requires c κs = omega (arith, c.loop-i.invariant, c.requires)
 
-add-place : tie.Need-overflow-add-place invariant-loop decreases-loop
-add-place c = omega (arith, c.before.before.before.before.before.before.loop.invariant, c.before.before.before.before.before.before.before.before.before.requires)
+add-place : tie.Need-overflow_add-place invariant-loop decreases-loop
+add-place c = omega (arith, c.loop-i.invariant, c.requires)
 
-add-i : tie.Need-overflow-add-i invariant-loop decreases-loop
+add-i : tie.Need-overflow_add-i invariant-loop decreases-loop
 add-i c = search rules
 
-loop-less : tie.Need-loop-smaller invariant-loop decreases-loop
+loop-less : tie.Need-loop-i-smaller invariant-loop decreases-loop
 loop-less c = search rules
 
-loop-again : tie.Need-loop-preserved invariant-loop decreases-loop
+loop-again : tie.Need-loop-i-preserved invariant-loop decreases-loop
 loop-again c =
-    let l = c.before.before.before.before.before.before.loop in
-    let s = c.before.before.before.before.before.before.before.before.before in
-    let f = c.before.before.put-field in (
+    let l = c.loop-i in
+    let s = c in
+    let f = c.put_field in (
       omega arith,
       omega (arith, l.invariant.1),
       omega (arith, f.auto, l.invariant.2),
       write-piece printed_field 6 (field-length 6) s.args.values.now 0 s.args.at s.args.out.now l.i l.place (omega arith) (omega (arith, s.requires)) l.invariant.1 l.invariant.3 f.ensures,
     )
 
-slice-write-out : tie.Need-slice-write-out invariant-loop decreases-loop
-slice-write-out c = omega (arith, c.before.loop.invariant, c.before.before.before.before.requires)
+slice-write-out : tie.Need-bounds-out-place invariant-loop decreases-loop
+slice-write-out c = omega (arith, c.loop-i.invariant, c.requires)
 
-add-result : tie.Need-overflow-add-result invariant-loop decreases-loop
-add-result c = omega (arith, c.before.loop.invariant, c.before.before.before.before.requires)
+add-result : tie.Need-overflow_add-result invariant-loop decreases-loop
+add-result c = omega (arith, c.loop-i.invariant, c.requires)
 
-same_length : tie.Need-same-length invariant-loop decreases-loop
+same_length : tie.Need-shape_of-out invariant-loop decreases-loop
 same_length c = search rules
 
 returns : tie.Need-returns invariant-loop decreases-loop
 unfolding line_in
 returns c =
-    let l = c.before.loop in
-    let s = c.before.before.before.before in
+    let l = c.loop-i in
+    let s = c in
     let values = s.args.values.now in
     let all = take_all l.i values (omega arith) in
     let place : l.place ≡ s.args.at + length (flat_map printed_field values) = omega (arith, l.invariant, fields-length 6 values) in (
@@ -76,8 +76,8 @@ returns c =
       omega (arith, l.invariant, line-length values),
     )
 
-pub put-line-spec : {M : Type 1} → statement M
-put-line-spec =
+pub put_line_spec : {M : Type 1} → statement M
+put_line_spec =
     tie.close
     (tie.spec
     invariant-loop
