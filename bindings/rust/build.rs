@@ -14,7 +14,9 @@ fn main() {
     println!("cargo:rerun-if-changed={}", library.display());
     if !library.is_file() {
         eprintln!("{} is missing.", library.display());
-        eprintln!("Run `tools/library` at the repository's root, or set KISTROVU_LIB to its folder.");
+        eprintln!(
+            "Run `tools/library` at the repository's root, or set KISTROVU_LIB to its folder."
+        );
         exit(1);
     }
     println!("cargo:rustc-link-search=native={}", folder.display());
