@@ -18,17 +18,17 @@ as-given s = to_z-of_z w32 s.args.closeness s.ranges.closeness
 first-test : (s : tie.Start) → lt_z s.args.closeness least_closeness ≡ lt_z (to_z w32 (of_z w32 s.args.closeness)) least_closeness
 first-test s = ap (λ (z : ℤ). lt_z z least_closeness) (sym (as-given s))
 
-returns : tie.Need-returns
+returns : tie.Need-returns-then-closeness-lt-LEAST_CLOSENESS
 unfolding least_closeness
 returns c =
-    let s = c.before in
-    c.if1.true ∙ sym (ap (λ (t : Bool). t || lt_z most_closeness s.args.closeness) (first-test s ∙ c.if1.true))
+    let s = c in
+    c.if-closeness-lt-LEAST_CLOSENESS.true ∙ sym (ap (λ (t : Bool). t || lt_z most_closeness s.args.closeness) (first-test s.before ∙ c.if-closeness-lt-LEAST_CLOSENESS.true))
 
-returns-2 : tie.Need-returns-2
+returns-2 : tie.Need-returns-else-closeness-lt-LEAST_CLOSENESS
 unfolding least_closeness most_closeness
 returns-2 c =
-    let s = c.before in
-    ap (lt_z most_closeness) (as-given s) ∙ sym (ap (λ (t : Bool). t || lt_z most_closeness s.args.closeness) (first-test s ∙ c.if1.false))
+    let s = c in
+    ap (lt_z most_closeness) (as-given s.before) ∙ sym (ap (λ (t : Bool). t || lt_z most_closeness s.args.closeness) (first-test s.before ∙ c.if-closeness-lt-LEAST_CLOSENESS.false))
 
-pub bad-closeness-spec : {M : Type 1} → statement M
-bad-closeness-spec = tie.close (tie.spec returns returns-2)
+pub bad_closeness_spec : {M : Type 1} → statement M
+bad_closeness_spec = tie.close (tie.spec returns returns-2)

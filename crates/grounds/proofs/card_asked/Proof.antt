@@ -14,69 +14,69 @@ use Rattle.grounds.proofs.Served.{ground-holds, ground-passes}
 use Rattle.grounds.proofs.card_asked.Statement.{statement}
 use Rattle.grounds.proofs.card_asked.Tie as tie
 
-returns : tie.Need-returns
+returns : tie.Need-returns-then-bytes-eq0
 unfolding asked_number first_ground
 returns c =
-    let n = length c.before.before.args.pixels.now in
-    rw (eq-eqb n 0 c.if1.true) refl
+    let n = length c.args.pixels.now in
+    rw (eq-eqb n 0 c.if-bytes-eq0.true) refl
 
-returns-2 : tie.Need-returns-2
+returns-2 : tie.Need-returns-then-bytes-gt0
 unfolding asked_number first_ground
 returns-2 c =
-    let n = length c.before.before.before.args.pixels.now in
-    rw (ne_eqb n 0 c.before.if1.false, lt-ltb 0 (n % 3) c.if2.true) refl
+    let n = length c.args.pixels.now in
+    rw (ne_eqb n 0 c.if-bytes-eq0.false, lt-ltb 0 (n % 3) c.if-bytes-gt0.true) refl
 
-returns-3 : tie.Need-returns-3
+returns-3 : tie.Need-returns-then-bytes-gt-MOST_PIXELS
 unfolding asked_number first_ground most_pixels
 returns-3 c =
-    let n = length c.before.before.before.before.args.pixels.now in
-    rw (ne_eqb n 0 c.before.before.if1.false, le-ltb 0 (n % 3) c.before.if2.false, lt-ltb 65536 (n / 3) c.if3.true) refl
+    let n = length c.args.pixels.now in
+    rw (ne_eqb n 0 c.if-bytes-eq0.false, le-ltb 0 (n % 3) c.if-bytes-gt0.false, lt-ltb 65536 (n / 3) c.if-bytes-gt-MOST_PIXELS.true) refl
 
-bad-closeness-requires : tie.Need-bad-closeness-requires
+bad-closeness-requires : tie.Need-bad_closeness-requires
 bad-closeness-requires c κs = search rules
 
 -- ground 8, once neither ground 4 nor ground 5 holds
-eight : (c : tie.After-bad-closeness) → let s = c.before.before.before.before.before in c.bad-closeness.result ≡ (bad_closeness s.args.closeness).holds
+eight : (c : tie.After-bad_closeness) → let s = c in c.bad_closeness.result ≡ (bad_closeness s.args.closeness).holds
 eight c =
-    let s = c.before.before.before.before.before in
-    c.bad-closeness.ensures ∙ ap (λ (e : Closeness). (bad_closeness e).holds) (to_z-of_z w32 s.args.closeness s.ranges.closeness)
+    let s = c in
+    c.bad_closeness.ensures ∙ ap (λ (e : Closeness). (bad_closeness e).holds) (to_z-of_z w32 s.args.closeness s.ranges.closeness)
 
 -- the grounds that are then left
-abbrev nine : (c : tie.After-bad-closeness) → List Ground
-nine c = let s = c.before.before.before.before.before in bad_labels (length s.args.pixels.now / 3) s.args.places ∷ []
+abbrev nine : (c : tie.After-bad_closeness) → List Ground
+nine c = let s = c in bad_labels (length s.args.pixels.now / 3) s.args.places ∷ []
 
-asked-left : (c : tie.After-bad-closeness) → let s = c.before.before.before.before.before in
+asked-left : (c : tie.After-bad_closeness) → let s = c in
     asked_number s.args.closeness s.args.pixels.now s.args.places ≡ first_ground (bad_closeness s.args.closeness ∷ nine c)
 unfolding asked_number first_ground most_pixels
 asked-left c =
-    let n = length c.before.before.before.before.before.args.pixels.now in
-    rw (ne_eqb n 0 c.before.before.before.if1.false, le-ltb 0 (n % 3) c.before.before.if2.false, le-ltb 65536 (n / 3) c.before.if3.false) refl
+    let n = length c.args.pixels.now in
+    rw (ne_eqb n 0 c.if-bytes-eq0.false, le-ltb 0 (n % 3) c.if-bytes-gt0.false, le-ltb 65536 (n / 3) c.if-bytes-gt-MOST_PIXELS.false) refl
 
-returns-4 : tie.Need-returns-4
+returns-4 : tie.Need-returns-then-bad_closeness
 returns-4 c =
-    let b = c.before in
-    let s = b.before.before.before.before.before in
-    sym (asked-left b ∙ ground-holds (bad_closeness s.args.closeness) (nine b) (sym (eight b) ∙ c.if4.true))
+    let b = c in
+    let s = b in
+    sym (asked-left b.before ∙ ground-holds (bad_closeness s.args.closeness) (nine b.before) (sym (eight b.before) ∙ c.if-bad_closeness.true))
 
-returns-5 : tie.Need-returns-5
+returns-5 : tie.Need-returns-then-places-bytes
 unfolding first_ground
 returns-5 c =
-    let b = c.before.before in
-    let s = b.before.before.before.before.before in
+    let b = c in
+    let s = b in
     let n = length s.args.pixels.now in
-    sym (asked-left b ∙ ground-passes (bad_closeness s.args.closeness) (nine b) (sym (eight b) ∙ c.before.if4.false)
-    ∙ rw (ne_eqb s.args.places (n / 3) c.if5.true) refl)
+    sym (asked-left b.before.before ∙ ground-passes (bad_closeness s.args.closeness) (nine b.before.before) (sym (eight b.before.before) ∙ c.if-bad_closeness.false)
+    ∙ rw (ne_eqb s.args.places (n / 3) c.if-places-bytes.true) refl)
 
-returns-6 : tie.Need-returns-6
+returns-6 : tie.Need-returns
 unfolding first_ground
 returns-6 c =
-    let b = c.before.before in
-    let s = b.before.before.before.before.before in
+    let b = c in
+    let s = b in
     let n = length s.args.pixels.now in
-    sym (asked-left b ∙ ground-passes (bad_closeness s.args.closeness) (nine b) (sym (eight b) ∙ c.before.if4.false)
-    ∙ rw (eq-eqb s.args.places (n / 3) c.if5.false) refl)
+    sym (asked-left b.before.before ∙ ground-passes (bad_closeness s.args.closeness) (nine b.before.before) (sym (eight b.before.before) ∙ c.if-bad_closeness.false)
+    ∙ rw (eq-eqb s.args.places (n / 3) c.if-places-bytes.false) refl)
 
-pub card-asked-spec : {M : Type 1} → statement M
-card-asked-spec =
+pub card_asked_spec : {M : Type 1} → statement M
+card_asked_spec =
     tie.close
     (tie.spec returns returns-2 returns-3 bad-closeness-requires returns-4 returns-5 returns-6)

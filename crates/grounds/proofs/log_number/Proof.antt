@@ -11,16 +11,16 @@ use Rattle.grounds.proofs.Served.{log-is-modes}
 use Rattle.grounds.proofs.log_number.Statement.{statement}
 use Rattle.grounds.proofs.log_number.Tie as tie
 
-modes-number-requires : tie.Need-modes-number-requires
+modes-number-requires : tie.Need-modes_number-requires
 modes-number-requires c κs = search rules
 
 returns : tie.Need-returns
 returns c =
-    let s = c.before.before in
+    let s = c in
     let a = s.args in
-    c.modes-number.ensures
+    c.modes_number.ensures
     ∙ ap (λ (e : Closeness). modes_number e a.h.now (a.numbers / record_numbers)) (to_z-of_z w32 a.closeness s.ranges.closeness)
     ∙ sym (log-is-modes a.closeness a.h.now a.numbers)
 
-pub log-number-spec : {M : Type 1} → statement M
-log-number-spec = tie.close (tie.spec modes-number-requires returns)
+pub log_number_spec : {M : Type 1} → statement M
+log_number_spec = tie.close (tie.spec modes-number-requires returns)

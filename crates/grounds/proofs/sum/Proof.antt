@@ -10,46 +10,46 @@ use Rattle.lists.proofs.Sums.{total-more}
 use Rattle.grounds.proofs.sum.Statement.{statement}
 use Rattle.grounds.proofs.sum.Tie as tie
 
-abbrev invariant-loop : tie.invariant-loop
+abbrev invariant-loop : tie.invariant-loop-i
 invariant-loop h sum₀ i₀ sum i = (i ≤ length h) × (sum ≡ total (take i h)) × (sum ≤ i * 2 ^ 32)
 
-abbrev decreases-loop : tie.decreases-loop
+abbrev decreases-loop : tie.decreases-loop-i
 decreases-loop h sum₀ i₀ sum i = length h - i
 
-loop-holds : tie.Need-loop-init invariant-loop decreases-loop
+loop-holds : tie.Need-loop-i-init invariant-loop decreases-loop
 loop-holds c = (search rules, refl, search rules)
 
-mul-sum : tie.Need-overflow-mul-sum invariant-loop decreases-loop
+mul-sum : tie.Need-offset_bounds-h-i invariant-loop decreases-loop
 mul-sum c = search rules
 
-shared-slice-read-sum : tie.Need-shared-slice-read-sum invariant-loop decreases-loop
+shared-slice-read-sum : tie.Need-bounds-h-i invariant-loop decreases-loop
 shared-slice-read-sum c = search rules
 
-cast-sum : tie.Need-overflow-cast-sum invariant-loop decreases-loop
-cast-sum c = omega (arith, c.shared-slice-known.given c.before.before.loop.i)
+cast-sum : tie.Need-overflow_cast-sum invariant-loop decreases-loop
+cast-sum c = omega (arith, c.shared_slice_known-1.given c.loop-i.i)
 
-add-sum : tie.Need-overflow-add-sum invariant-loop decreases-loop
-add-sum c = omega (arith, c.shared-slice-known.given c.before.before.loop.i)
+add-sum : tie.Need-overflow_add-sum invariant-loop decreases-loop
+add-sum c = omega (arith, c.shared_slice_known-1.given c.loop-i.i)
 
-add-i : tie.Need-overflow-add-i invariant-loop decreases-loop
+add-i : tie.Need-overflow_add-i invariant-loop decreases-loop
 add-i c = search rules
 
-loop-less : tie.Need-loop-smaller invariant-loop decreases-loop
+loop-less : tie.Need-loop-i-smaller invariant-loop decreases-loop
 loop-less c = search rules
 
-loop-again : tie.Need-loop-preserved invariant-loop decreases-loop
+loop-again : tie.Need-loop-i-preserved invariant-loop decreases-loop
 loop-again c =
-    let l = c.before.before.loop in (
+    let l = c.loop-i in (
       omega arith,
-      rw l.invariant.1 (sym (total-more c.before.before.before.args.h.now l.i c.before.loop-test.true)),
-      omega (arith, c.shared-slice-known.given l.i),
+      rw l.invariant.1 (sym (total-more c.args.h.now l.i c.loop-i-test.true)),
+      omega (arith, c.shared_slice_known-1.given l.i),
     )
 
 returns : tie.Need-returns invariant-loop decreases-loop
-returns c = c.before.loop.invariant.1 ∙ ap total (take_all c.before.loop.i _ (omega arith))
+returns c = c.loop-i.invariant.1 ∙ ap total (take_all c.loop-i.i _ (omega arith))
 
-pub sum-spec : {M : Type 1} → statement M
-sum-spec =
+pub sum_spec : {M : Type 1} → statement M
+sum_spec =
     tie.close
     (tie.spec
     invariant-loop

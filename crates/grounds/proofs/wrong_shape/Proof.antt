@@ -6,26 +6,26 @@ use Rattle.swatch.proofs.Numbers.{size-large, size-good}
 use Rattle.grounds.proofs.wrong_shape.Statement.{statement}
 use Rattle.grounds.proofs.wrong_shape.Tie as tie
 
-area-of-requires : tie.Need-area-of-requires
+area-of-requires : tie.Need-area_of-area-requires
 area-of-requires c κs = search rules
 
-returns : tie.Need-returns
-returns c = rw (← c.before.area_of.ensures, c.if1.true) refl
+returns : tie.Need-returns-then-area-eq0
+returns c = rw (← c.area_of-area.ensures, c.if-area-eq0.true) refl
 
-returns-2 : tie.Need-returns-2
+returns-2 : tie.Need-returns-then-area
 unfolding most_swatch_pixels
 returns-2 c =
-    let a = c.before.before.area_of in
-    rw (← a.ensures, size-large a.result c.if2.true) refl
+    let a = c.area_of-area in
+    rw (← a.ensures, size-large a.result c.if-area.true) refl
 
-mul-result : tie.Need-overflow-mul-result
+mul-result : tie.Need-overflow_mul-result
 mul-result c = search rules
 
-returns-3 : tie.Need-returns-3
+returns-3 : tie.Need-returns
 unfolding most_swatch_pixels
 returns-3 c =
-    let a = c.before.before.area_of in
-    rw (← a.ensures, size-good a.result c.before.if1.false c.if2.false) refl
+    let a = c.area_of-area in
+    rw (← a.ensures, size-good a.result c.if-area-eq0.false c.if-area.false) refl
 
-pub wrong-shape-spec : {M : Type 1} → statement M
-wrong-shape-spec = tie.close (tie.spec area-of-requires returns returns-2 mul-result returns-3)
+pub wrong_shape_spec : {M : Type 1} → statement M
+wrong_shape_spec = tie.close (tie.spec area-of-requires returns returns-2 mul-result returns-3)

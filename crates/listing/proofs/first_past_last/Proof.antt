@@ -40,7 +40,7 @@ add-if1 c = let read = c in omega (arith, read.shared_slice_known-1.given read.l
 
 returns : tie.Need-returns-then-ring-places invariant-loop decreases-loop
 returns c =
-    let l = in-loop c in
+    let l = in-loop c.before in
     let s = l in
     let places = s.args.places.now in
     let found = first_found (past_last s.args.ring) places 0 l.loop-i.i c.loop-i-test.true (le-leb s.args.ring.bins (s.args.ring.opening + get_or places l.loop-i.i 0) (omega (arith, c.if-ring-places.true))) in
@@ -54,7 +54,7 @@ loop-less c = search rules
 
 loop-again : tie.Need-loop-i-preserved invariant-loop decreases-loop
 loop-again c =
-    let l = in-loop c in
+    let l = in-loop c.before in
     let s = l in
     let places = s.args.places.now in
     let i = l.loop-i.i in

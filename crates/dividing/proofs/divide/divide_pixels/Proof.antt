@@ -92,20 +92,20 @@ slice-relend-prefix-split-some c = omega (arith, (laid c.before.before.before.be
 slice-aggregate-split-some : tie.Need-slice_bounds-split_some-end-2
 slice-aggregate-split-some c =
     let k = c in
-    sym (greys-long (bytes k.before.before.before.before.before) (order k.before.before.before.before.before) (other k.before.before.before.before.before) (greys k.before.before.before.before.before) (all k.before.before.before.before.before) (laid k))
+    sym (greys-long (bytes k.before.before.before.before.before) (order k.before.before.before.before.before) (other k.before.before.before.before.before) (greys k.before.before.before.before.before) (all k.before.before.before.before.before) (laid k.before.before.before.before.before))
 
 split-some-requires : tie.Need-split_some-found-requires
 split-some-requires c κs =
     let k = c in
     let p = (entry k.before.before.before.before.before.before.before.before.before).requires in
     let l = laid k.before.before.before.before.before.before.before.before.before in
-    let long = greys-long (bytes k.before.before.before.before.before.before.before.before.before) (order k.before.before.before.before.before.before.before.before.before) (other k.before.before.before.before.before.before.before.before.before) (greys k) (all k) l in
+    let long = greys-long (bytes k.before.before.before.before.before.before.before.before.before) (order k.before.before.before.before.before.before.before.before.before) (other k.before.before.before.before.before.before.before.before.before) (greys k.before.before.before.before.before.before.before.before.before) (all k.before.before.before.before.before.before.before.before.before) l in
     record {
       left = omega arith;
       setting = p.4;
       room = omega arith;
       codes = omega arith;
-      lists = greys-room (bytes k) (order k) (other k) (greys k) (all k) l;
+      lists = greys-room (bytes k.before.before.before.before.before.before.before.before.before) (order k.before.before.before.before.before.before.before.before.before) (other k.before.before.before.before.before.before.before.before.before) (greys k.before.before.before.before.before.before.before.before.before) (all k.before.before.before.before.before.before.before.before.before) l;
       keyed = omega (arith, long, l.some, p.2);
       few = omega (arith, long, l.some, p.3);
       inside = l.greys_in;
@@ -138,7 +138,7 @@ split-some-requires-2 c κs =
     let lv = f.split_some-found.auto.other in
     let long = colours-long (bytes k) (order k) (other k) (greys k) (all k) l (u f.before.before.before.before.before.before.before.before.before.before.before.before.before.before.before) (v f.before.before.before.before.before.before.before.before.before.before.before.before.before.before.before) lu lv in
     let room = colours-room (bytes k) (order k) (other k) (greys k) (all k) l (u f.before.before.before.before.before.before.before.before.before.before.before.before.before.before.before) (v f.before.before.before.before.before.before.before.before.before.before.before.before.before.before.before) lu lv in
-    let lent = colours-lent (bytes k) (order k) (other k) (greys k) (all k) l (u f) (v f) lu lv in
+    let lent = colours-lent (bytes k) (order k) (other k) (greys k) (all k) l (u f.before.before.before.before.before.before.before.before.before.before.before.before.before.before.before) (v f.before.before.before.before.before.before.before.before.before.before.before.before.before.before.before) lu lv in
     let few = some-few (closeness_of (entry k).args.setting) (pixels_of (bytes k)) 1 0 (take (greys k) (order k)) in
     record {
       left = omega arith;

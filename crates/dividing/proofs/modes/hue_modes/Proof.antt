@@ -21,7 +21,7 @@ entry m = m.before.before.before.before
 
 -- ---- the ring, its modes, and how many they can be
 abbrev ring : tie.After-ring_modes-found → List ℕ
-ring m = (entry m).args.t1
+ring m = (entry m).args.h
 
 bins : (m : tie.After-ring_modes-found) → length (ring m) ≡ bin_count hue
 bins m = search rules
@@ -39,28 +39,28 @@ ring-modes-requires : tie.Need-ring_modes-found-requires
 unfolding most_pixels
 ring-modes-requires c κs =
     let s = c in
-    let long : length s.args.t1 ≡ bin_count hue = search rules in
+    let long : length s.args.h ≡ bin_count hue = search rules in
     ((omega arith, omega arith, omega (arith, s.requires.0)), (s.requires.1, omega arith))
 
 array-share-prefix-places : tie.Need-slice_bounds-places-end
-array-share-prefix-places c = let m = c in omega (arith, few m, m.ring_modes-found.auto.places)
+array-share-prefix-places c = let m = c in omega (arith, few m.before, m.ring_modes-found.auto.places)
 
 slice-aggregate-number-bins : tie.Need-slice_bounds-number_bins-end
-slice-aggregate-number-bins c = sym (listed c).long
+slice-aggregate-number-bins c = sym (listed c.before.before).long
 
 number-bins-requires : tie.Need-number_bins-requires
 number-bins-requires c κs =
     let m = c in
-    let l = listed m in
-    (l.rise, omega (arith, l.long, few m), omega (arith, m.ring_modes-found.ensures.0, opening-in (ring m) (omega (arith, bins m)), bins m), omega arith)
+    let l = listed m.before.before.before in
+    (l.rise, omega (arith, l.long, few m.before.before.before), omega (arith, m.ring_modes-found.ensures.0, opening-in (ring m.before.before.before) (omega (arith, bins m.before.before.before)), bins m.before.before.before), omega arith)
 
 returns : tie.Need-returns
 returns c =
     let m = c in
     let q = c.number_bins in
-    let same : length q.new.modes ≡ length (ring m) = omega (arith, q.auto.modes, bins m) in
-    rw (listed m).count
-    (ring-numbered (closeness_of (entry m).args.setting) (ring m) (omega (arith, bins m)) _ m.ring_modes-found.ensures.0 q.new.modes same (rw (listed m).starts at q.ensures))
+    let same : length q.new.modes ≡ length (ring m.before.before.before.before.before.before) = omega (arith, q.auto.modes, bins m.before.before.before.before.before.before) in
+    rw (listed m.before.before.before.before.before.before).count
+    (ring-numbered (closeness_of (entry m.before.before.before.before.before.before).args.setting) (ring m.before.before.before.before.before.before) (omega (arith, bins m.before.before.before.before.before.before)) _ m.ring_modes-found.ensures.0 q.new.modes same (rw (listed m.before.before.before.before.before.before).starts at q.ensures))
 
 pub hue_modes_spec : {M : Type 1} → statement M
 hue_modes_spec =
