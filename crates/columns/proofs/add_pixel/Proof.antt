@@ -11,40 +11,40 @@ use Rattle.columns.proofs.add_pixel.Statement.{statement}
 use Rattle.columns.proofs.add_pixel.Tie as tie
 
 -- the way to the call
-abbrev start : tie.After-sums-at → tie.Start
-start c = c.before.before.before
+abbrev start : tie.After-sums_at-own → tie.Start
+start c = c.before.before
 
 plus-requires : tie.Need-plus-requires
-plus-requires c κs = omega (arith, ap (λ (s : Sums). s.red) c.sums_at.ensures, (start c).requires.2.red)
+plus-requires c κs = omega (arith, ap (λ (s : Sums). s.red) c.sums_at-own.ensures, (start c).requires.2.red)
 
 plus-requires-2 : tie.Need-plus-requires-2
-plus-requires-2 c κs = omega (arith, ap (λ (s : Sums). s.green) c.before.sums_at.ensures, (start c.before).requires.2.green)
+plus-requires-2 c κs = omega (arith, ap (λ (s : Sums). s.green) c.sums_at-own.ensures, (start c.before).requires.2.green)
 
-slice-write-sums-2 : tie.Need-slice-write-sums-2
+slice-write-sums-2 : tie.Need-bounds-sums-label-2
 unfolding most_entries
 slice-write-sums-2 c =
     let s = start c.before.before in
-    omega (arith, s.pre.0, s.pre.1, length-set s.args.sums.now s.args.label c.before.plus.result)
+    omega (arith, s.requires.0, s.requires.1, length-set s.args.sums.now s.args.label c.plus.result)
 
 plus-requires-3 : tie.Need-plus-requires-3
-plus-requires-3 c κs = omega (arith, ap (λ (s : Sums). s.blue) c.before.before.sums_at.ensures, (start c.before.before).requires.2.blue)
+plus-requires-3 c κs = omega (arith, ap (λ (s : Sums). s.blue) c.sums_at-own.ensures, (start c.before.before).requires.2.blue)
 
-slice-write-sums-3 : tie.Need-slice-write-sums-3
+slice-write-sums-3 : tie.Need-bounds-sums-label-3
 unfolding most_entries
 slice-write-sums-3 c =
     let s = start c.before.before.before in
-    let long = length-set (set s.args.sums.now s.args.label c.before.before.plus.result) (1000 + s.args.label) c.before.plus2.result
-    ∙ length-set s.args.sums.now s.args.label c.before.before.plus.result in
-    omega (arith, s.pre.0, s.pre.1, long)
+    let long = length-set (set s.args.sums.now s.args.label c.plus.result) (1000 + s.args.label) c.plus-2.result
+    ∙ length-set s.args.sums.now s.args.label c.plus.result in
+    omega (arith, s.requires.0, s.requires.1, long)
 
 returns : tie.Need-returns
 unfolding with_pixel most_entries
 returns c =
-    let own = c.before.before.before.sums_at.ensures in
-    rw (c.before.before.plus.ensures, c.before.plus2.ensures, c.plus3.ensures, own) refl
+    let own = c.sums_at-own.ensures in
+    rw (c.plus.ensures, c.plus-2.ensures, c.plus-3.ensures, own) refl
 
-pub add-pixel-spec : {M : Type 1} → statement M
-add-pixel-spec =
+pub add_pixel_spec : {M : Type 1} → statement M
+add_pixel_spec =
     tie.close
     (tie.spec
     (λ c κs. search rules)

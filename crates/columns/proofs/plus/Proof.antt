@@ -5,12 +5,12 @@ use Rattle.palette.specs.Sound.{most_pixels}
 use Rattle.columns.proofs.plus.Statement.{statement}
 use Rattle.columns.proofs.plus.Tie as tie
 
-add-result : tie.Need-overflow-add-result
+add-result : tie.Need-overflow_add-result
 unfolding most_pixels
 add-result c = omega arith
 
 returns : tie.Need-returns
 returns c = search rules
 
-pub plus-spec : {M : Type 1} → statement M
-plus-spec = tie.close (tie.spec add-result returns)
+pub plus_spec : {M : Type 1} → statement M
+plus_spec = tie.close (tie.spec add-result returns)
