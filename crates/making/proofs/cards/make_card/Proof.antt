@@ -22,148 +22,148 @@ use Rattle.making.proofs.cards.make_card.Statement.{statement}
 use Rattle.making.proofs.cards.make_card.Tie as tie
 
 -- ---- the ways back: to the call, to the division, to the test of the entries, and to the labels
-abbrev entry : tie.After-divide-pixels → tie.Start
+abbrev entry : tie.After-divide_pixels-total → tie.Start
 entry m = m.before.before.before.before.before.before.before.before.before.before.before
 
-abbrev divided : tie.Else1 → tie.After-divide-pixels
+abbrev divided : tie.Else-total-gt-MOST_ENTRIES → tie.After-divide_pixels-total
 divided t = t.before.before.before.before.before.before.before.before.before
 
-abbrev fitting : tie.After-write-labels → tie.Else1
-fitting w = w.before.before.before.before
+abbrev fitting : tie.After-write_labels → tie.Else-total-gt-MOST_ENTRIES
+fitting w = w.before.before.before
 
-abbrev labelled : tie.After-add-columns → tie.After-write-labels
-labelled a = a.before.before.before.before.before
+abbrev labelled : tie.After-add_columns → tie.After-write_labels
+labelled a = a.before.before.before.before
 
 -- ---- the division
-abbrev pixels : tie.After-divide-pixels → List Pixel
+abbrev pixels : tie.After-divide_pixels-total → List Pixel
 pixels m = pixels_of (entry m).args.pixels.now
 
-abbrev closeness : tie.After-divide-pixels → Closeness
+abbrev closeness : tie.After-divide_pixels-total → Closeness
 closeness m = closeness_of (entry m).args.setting
 
 abbrev places : tie.Start → ℕ
 places s = length s.args.labels.now
 
-abbrev codes : tie.After-divide-pixels → List ℕ
-codes m = m.divide-pixels.new.1.1.1.1.1.0
+abbrev codes : tie.After-divide_pixels-total → List ℕ
+codes m = m.divide_pixels-total.new.codes
 
-abbrev sizes : tie.After-divide-pixels → List ℕ
-sizes m = m.divide-pixels.new.1.1.1.1.1.1.0
+abbrev sizes : tie.After-divide_pixels-total → List ℕ
+sizes m = m.divide_pixels-total.new.sizes
 
 -- the numbers of the pixels, and what else the list holds
-abbrev numbers : tie.After-divide-pixels → List ℕ
-numbers m = m.divide-pixels.new.1.1.0 ++ drop (places (entry m)) (entry m).args.order.now
+abbrev numbers : tie.After-divide_pixels-total → List ℕ
+numbers m = m.divide_pixels-total.new.order ++ drop (places (entry m)) (entry m).args.order.now
 
-byte : (m : tie.After-divide-pixels) (j : ℕ) → get_or (entry m).args.pixels.now j 0 < 256
-byte m j = let known = m.before.before.before.before.before.before.before.before.before.before.shared-slice-known.given j in omega arith
+byte : (m : tie.After-divide_pixels-total) (j : ℕ) → get_or (entry m).args.pixels.now j 0 < 256
+byte m j = let known = m.shared_slice_known-1.given j in omega arith
 
-divide-pixels-requires : tie.Need-divide-pixels-requires
+divide-pixels-requires : tie.Need-divide_pixels-total-requires
 divide-pixels-requires c κs =
-    let s = c.before.before.before.before.before.before.before.before.before.before in
+    let s = c in
     let p = s.requires in
-    let x = length-take-le (places s) s.args.order.now p.2 in
-    let y = length-take-le (places s) s.args.other.now p.3 in
-    let z = length-take-le (places s) s.args.keys.now p.4 in
+    let x = length-take-le (places s.before.before.before.before.before.before.before.before.before.before) s.args.order.now p.2 in
+    let y = length-take-le (places s.before.before.before.before.before.before.before.before.before.before) s.args.other.now p.3 in
+    let z = length-take-le (places s.before.before.before.before.before.before.before.before.before.before) s.args.keys.now p.4 in
     (omega (arith, p.0.threes, x), x ∙ sym y, z ∙ sym x, omega (arith, x, p.0.few), p.1)
 
-left : (m : tie.After-divide-pixels) → FiguresLeft (closeness m) (pixels m) (numbers m) (codes m) (sizes m) m.divide-pixels.result
+left : (m : tie.After-divide_pixels-total) → FiguresLeft (closeness m) (pixels m) (numbers m) (codes m) (sizes m) m.divide_pixels-total.result
 unfolding most_entries
 left m =
     let s = entry m in
-    let long = m.divide-pixels.auto.1.1.0 ∙ length-take-le (places s) s.args.order.now s.pre.2 in
-    divided-left _ _ _ _ _ _ _ _ _ m.divide-pixels.ensures refl refl (long ∙ sym (pixels-length s.args.pixels.now (places s) s.pre.0.threes))
+    let long = m.divide_pixels-total.auto.order ∙ length-take-le (places s) s.args.order.now s.requires.2 in
+    divided-left _ _ _ _ _ _ _ _ _ m.divide_pixels-total.ensures refl refl (long ∙ sym (pixels-length s.args.pixels.now (places s) s.requires.0.threes))
 
 -- what the laws of a divided image are given
-few : (m : tie.After-divide-pixels) → m.divide-pixels.result ≤ places (entry m)
+few : (m : tie.After-divide_pixels-total) → m.divide_pixels-total.result ≤ places (entry m)
 few m = divided-few _ (byte m) _ (entry m).requires.0.threes _ _ _ _ _ (left m)
 
 -- ---- more entries than a card may hold
-abbrev parted : tie.Then1 → tie.After-divide-pixels
+abbrev parted : tie.Then-total-gt-MOST_ENTRIES → tie.After-divide_pixels-total
 parted t = t.before.before.before.before.before.before.before.before.before
 
-crowded : (t : tie.Then1) → most_entries < (parted t).divide-pixels.result
+crowded : (t : tie.Then-total-gt-MOST_ENTRIES) → most_entries < (parted t).divide_pixels-total.result
 unfolding most_entries
-crowded t = omega (arith, t.if1.true)
+crowded t = omega (arith, t.if-total-gt-MOST_ENTRIES.true)
 
-cast-t24 : tie.Need-overflow-cast-t24
+cast-t24 : tie.Need-overflow_cast-result
 unfolding most_pixels
-cast-t24 c = let m = parted c in omega (arith, few m, (entry m).pre.0.few)
+cast-t24 c = let m = parted c in omega (arith, few m, (entry m).requires.0.few)
 
-returns : tie.Need-returns
+returns : tie.Need-returns-then-total-gt-MOST_ENTRIES
 returns c =
     let m = parted c.before in
-    let image = (entry m).pre.0.threes in (
-      card-refused _ (byte m) _ image _ _ _ _ _ (left m) (crowded c.before) _ refl c.no-entries.ensures,
+    let image = (entry m).requires.0.threes in (
+      card-refused _ (byte m) _ image _ _ _ _ _ (left m) (crowded c.before) _ refl c.no_entries.ensures,
       labels-as-lent _ (byte m) _ image _ _ _ _ _ (left m) (crowded c.before) (entry m).args.labels.now,
     )
 
 -- ---- a card that holds all entries
-held : (t : tie.Else1) → (divided t).divide-pixels.result ≤ most_entries
+held : (t : tie.Else-total-gt-MOST_ENTRIES) → (divided t).divide_pixels-total.result ≤ most_entries
 unfolding most_entries
-held t = omega (arith, t.if1.false)
+held t = omega (arith, t.if-total-gt-MOST_ENTRIES.false)
 
-room : (t : tie.Else1) → ((divided t).divide-pixels.result ≤ length (codes (divided t))) × ((divided t).divide-pixels.result ≤ length (sizes (divided t)))
+room : (t : tie.Else-total-gt-MOST_ENTRIES) → ((divided t).divide_pixels-total.result ≤ length (codes (divided t))) × ((divided t).divide_pixels-total.result ≤ length (sizes (divided t)))
 unfolding most_entries
-room t = let kept = (divided t).divide-pixels.auto.1.1.1.1.1 in (omega (arith, held t, kept.0), omega (arith, held t, kept.1.0))
+room t = let kept = (divided t).divide_pixels-total.auto.1.1.1.1.1 in (omega (arith, held t, kept.0), omega (arith, held t, kept.1.0))
 
-write-labels-requires : tie.Need-write-labels-requires
+write-labels-requires : tie.Need-write_labels-requires
 write-labels-requires c κs =
-    let t = c.before.before.before in
-    let m = divided t in
-    labels-laid _ (byte m) _ (entry m).pre.0.threes _ _ _ _ _ (left m) (held t)
+    let t = c in
+    let m = divided t.before.before in
+    labels-laid _ (byte m) _ (entry m).requires.0.threes _ _ _ _ _ (left m) (held t.before.before)
 
 -- the labels are those of the card
-labels-are : (w : tie.After-write-labels) → w.write-labels.new.1.1.0 ≡ labels (closeness (divided (fitting w))) (pixels (divided (fitting w)))
+labels-are : (w : tie.After-write_labels) → w.write_labels.new.labels ≡ labels (closeness (divided (fitting w))) (pixels (divided (fitting w)))
 labels-are w =
     let m = divided (fitting w) in
-    w.write-labels.ensures ∙ labels-left _ (byte m) _ (entry m).pre.0.threes _ _ _ _ _ (left m) (held (fitting w)) (entry m).args.labels.now refl
+    w.write_labels.ensures ∙ labels-left _ (byte m) _ (entry m).requires.0.threes _ _ _ _ _ (left m) (held (fitting w)) (entry m).args.labels.now refl
 
-add-columns-requires : tie.Need-add-columns-requires
+add-columns-requires : tie.Need-add_columns-requires
 unfolding most_entries
 add-columns-requires c κs =
-    let w = c.before.before.before.before in
-    let t = fitting w in
+    let w = c in
+    let t = fitting w.before.before.before in
     let m = divided t in
     let s = entry m in (
-      (rw w.write-labels.auto.1.1.0 s.pre.0, rw (labels-are w) (labels-held _ (byte m) _ s.pre.0.threes _ _ _ _ _ (left m) (held t))),
+      (rw w.write_labels.auto.labels s.requires.0, rw (labels-are w.before.before.before) (labels-held _ (byte m) _ s.requires.0.threes _ _ _ _ _ (left m) (held t))),
       added_none _ (pixels m) _ (λ i. le-ltb (i % s.args.shape.width) 0 (omega arith)),
     )
 
 -- every pixel is added up
-added : (a : tie.After-add-columns) → let m = divided (fitting (labelled a)) in
-    PixelsAdded (λ i. ltb (i % (entry m).args.shape.width) (entry m).args.shape.width) (labels (closeness m) (pixels m)) (pixels m) a.add-columns.new.1.1.1.0
-added a = rw (labels-are (labelled a)) at a.add-columns.ensures
+added : (a : tie.After-add_columns) → let m = divided (fitting (labelled a)) in
+    PixelsAdded (λ i. ltb (i % (entry m).args.shape.width) (entry m).args.shape.width) (labels (closeness m) (pixels m)) (pixels m) a.add_columns.new.sums
+added a = rw (labels-are (labelled a)) at a.add_columns.ensures
 
-entries-of-requires : tie.Need-entries-of-requires
+entries-of-requires : tie.Need-entries_of-requires
 entries-of-requires c κs =
-    let a = c.before.before.before.before in
-    let t = fitting (labelled a) in
+    let a = c in
+    let t = fitting (labelled a.before.before.before.before) in
     let m = divided t in
-    let image = (entry m).pre.0 in
+    let image = (entry m).requires.0 in
     let shape = (entry m).args.shape in
-    figures-laid _ (byte m) _ image.threes _ _ _ _ _ (left m) (held t) _ (λ i l. in-some-column shape.width shape.height i (omega (arith, image.shaped))) _ (added a) image.few
+    figures-laid _ (byte m) _ image.threes _ _ _ _ _ (left m) (held t) _ (λ i l. in-some-column shape.width shape.height i (omega (arith, image.shaped))) _ (added a.before.before.before.before) image.few
 
-returns-2 : tie.Need-returns-2
+returns-2 : tie.Need-returns
 returns-2 c =
-    let a = c.before.before.before.before.before in
-    let t = fitting (labelled a) in
+    let a = c in
+    let t = fitting (labelled a.before.before.before.before.before) in
     let m = divided t in
-    let image = (entry m).pre.0 in
+    let image = (entry m).requires.0 in
     let shape = (entry m).args.shape in (
-      card-made _ (byte m) _ image.threes _ _ _ _ _ (left m) (held t) _ (λ i l. in-some-column shape.width shape.height i (omega (arith, image.shaped))) _ (added a) _ refl c.entries-of.ensures,
-      labels-are (labelled a) ∙ labels-served _ (byte m) _ image.threes _ _ _ _ _ (left m) (held t) (entry m).args.labels.now,
+      card-made _ (byte m) _ image.threes _ _ _ _ _ (left m) (held t) _ (λ i l. in-some-column shape.width shape.height i (omega (arith, image.shaped))) _ (added a.before.before.before.before.before) _ refl c.entries_of.ensures,
+      labels-are (labelled a.before.before.before.before.before) ∙ labels-served _ (byte m) _ image.threes _ _ _ _ _ (left m) (held t) (entry m).args.labels.now,
     )
 
-pub make-card-spec : {M : Type 1} → statement M
-make-card-spec =
+pub make_card_spec : {M : Type 1} → statement M
+make_card_spec =
     tie.close
     (tie.spec
     (λ c. search rules)
-    (λ c. let s = c.before.before.before.before.before.before in sym (length-take-le (places s) s.args.order.now s.requires.2))
+    (λ c. let s = c in sym (length-take-le (places s) s.args.order.now s.requires.2))
     (λ c. search rules)
-    (λ c. let s = c.before.before.before.before.before.before.before in sym (length-take-le (places s) s.args.other.now s.requires.3))
+    (λ c. let s = c in sym (length-take-le (places s) s.args.other.now s.requires.3))
     (λ c. search rules)
-    (λ c. let s = c.before.before.before.before.before.before.before.before in sym (length-take-le (places s) s.args.keys.now s.requires.4))
+    (λ c. let s = c in sym (length-take-le (places s) s.args.keys.now s.requires.4))
     (λ c. search rules)
     (λ c. search rules)
     divide-pixels-requires
@@ -174,15 +174,15 @@ make-card-spec =
     (λ c. search rules)
     returns
     (λ c. search rules)
-    (λ c. sym (length-take-le _ _ (room c.before.before).1))
+    (λ c. sym (length-take-le _ _ (room c).1))
     write-labels-requires
     (λ c. search rules)
     add-columns-requires
     (λ c. search rules)
     (λ c. search rules)
-    (λ c. sym (length-take-le _ _ (room (fitting (labelled c.before.before))).0))
+    (λ c. sym (length-take-le _ _ (room (fitting (labelled c))).0))
     (λ c. search rules)
-    (λ c. sym (length-take-le _ _ (room (fitting (labelled c.before.before.before))).1))
+    (λ c. sym (length-take-le _ _ (room (fitting (labelled c))).1))
     (λ c. search rules)
     entries-of-requires
     (λ c. search rules)

@@ -7,7 +7,7 @@ use Rattle.making.proofs.entries.entry.Tie as tie
 
 returns : tie.Need-returns
 unfolding entry_by
-returns c = rw (c.before.before.mean.ensures, c.before.mean2.ensures, c.mean3.ensures) refl
+returns c = rw (c.mean.ensures, c.mean-2.ensures, c.mean-3.ensures) refl
 
 pub entry_spec : {M : Type 1} → statement M
 entry_spec =

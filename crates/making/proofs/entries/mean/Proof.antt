@@ -12,31 +12,31 @@ use Rattle.columns.specs.Columns.{largest_byte}
 use Rattle.making.proofs.entries.mean.Statement.{statement}
 use Rattle.making.proofs.entries.mean.Tie as tie
 
-mul-result : tie.Need-overflow-mul-result
+mul-result : tie.Need-overflow_mul-result
 unfolding most_pixels
 mul-result c = omega arith
 
-add-result : tie.Need-overflow-add-result
+add-result : tie.Need-overflow_add-result
 unfolding most_pixels
 add-result c = omega arith
 
-mul-result-2 : tie.Need-overflow-mul-result-2
+mul-result-2 : tie.Need-overflow_mul-result-2
 unfolding most_pixels
 mul-result-2 c = omega arith
 
-div-result : tie.Need-nonzero-div-result
+div-result : tie.Need-nonzero_div-result
 div-result c = search rules
 
 -- a quotient of at most this is a byte, whatever is added to round it
 fits : (x total count : ℕ) → 0 < count → total ≤ largest_byte * count → x ≤ 2 * total + count → Fits w8 (x / (2 * count))
 fits x total count some few most = let below : x / (2 * count) < 256 = (div-lt_iff_lt-mul {k = 2 * count} {x = x} {y = 256} (omega arith)).1 (omega arith) in omega arith
 
-cast-result : tie.Need-overflow-cast-result
+cast-result : tie.Need-overflow_cast-result
 cast-result c = fits _ c.args.total c.args.count (omega arith) (omega arith) (omega arith)
 
 returns : tie.Need-returns
 unfolding mean_by
 returns c = refl
 
-pub mean-spec : {M : Type 1} → statement M
-mean-spec = tie.close (tie.spec mul-result add-result mul-result-2 div-result cast-result returns)
+pub mean_spec : {M : Type 1} → statement M
+mean_spec = tie.close (tie.spec mul-result add-result mul-result-2 div-result cast-result returns)
