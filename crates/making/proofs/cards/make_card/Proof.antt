@@ -104,7 +104,7 @@ held t = omega (arith, t.if-total-gt-MOST_ENTRIES.false)
 
 room : (t : tie.Else-total-gt-MOST_ENTRIES) → ((divided t).divide_pixels-total.result ≤ length (codes (divided t))) × ((divided t).divide_pixels-total.result ≤ length (sizes (divided t)))
 unfolding most_entries
-room t = let kept = (divided t).divide_pixels-total.auto.1.1.1.1.1 in (omega (arith, held t, kept.0), omega (arith, held t, kept.1.0))
+room t = let kept = (divided t).divide_pixels-total.auto in (omega (arith, held t, kept.codes), omega (arith, held t, kept.sizes))
 
 write-labels-requires : tie.Need-write_labels-requires
 write-labels-requires c κs =

@@ -36,13 +36,13 @@ cast-end : tie.Need-overflow_cast-end invariant-loop decreases-loop
 cast-end c = omega (arith, c.shared_slice_known-in-loop-k-1.given c.loop-k.k)
 
 add-end : tie.Need-overflow_add-end invariant-loop decreases-loop
-add-end c = omega (arith, next c.before, (entry c).requires.whole)
+add-end c = omega (arith, next c.before, (entry c.before.before).requires.whole)
 
 mul-label-range : tie.Need-offset_bounds-numbers-at invariant-loop decreases-loop
-mul-label-range c = omega (arith, next c.before, (entry c).requires.whole)
+mul-label-range c = omega (arith, next c.before, (entry c.before.before).requires.whole)
 
 part-label-range-end : tie.Need-slice_bounds-label_range-end invariant-loop decreases-loop
-part-label-range-end c = omega (arith, next c.before, (entry c).requires.whole)
+part-label-range-end c = omega (arith, next c.before, (entry c.before.before).requires.whole)
 
 -- the way from a call of the pass back to where the pass begins
 abbrev pass : tie.After-label_range-arg-1 invariant-loop decreases-loop → tie.In-loop-k invariant-loop decreases-loop
@@ -50,7 +50,7 @@ pass c = c.before.before
 
 label-of-requires : tie.Need-label_of-requires invariant-loop decreases-loop
 unfolding most_entries
-label-of-requires c κs = omega (arith, (entry (pass.before c)).requires.few)
+label-of-requires c κs = omega (arith, (entry (pass c).before).requires.few)
 
 label-range-requires : tie.Need-label_range-requires invariant-loop decreases-loop
 label-range-requires c κs =
@@ -66,16 +66,16 @@ labelling c = c.before.before.before.before
 
 add-k : tie.Need-overflow_add-k invariant-loop decreases-loop
 unfolding most_entries
-add-k c = omega (arith, (entry (pass (labelling.before c))).requires.few)
+add-k c = omega (arith, (entry (pass (labelling c).before).before).requires.few)
 
 loop-again : tie.Need-loop-k-preserved invariant-loop decreases-loop
 loop-again c =
-    let i = pass (labelling.before c) in
+    let i = pass (labelling c).before in
     let l = i.loop-k in
-    let a = (entry i).args in
+    let a = (entry i.before).args in
     let w = c.label_range in
     let part = take (l.at + get_or a.sizes.now l.k 0 - l.at) (drop l.at a.numbers.now) in
-    given-more a.numbers.now a.sizes.now a.labels.now (length a.labels.now) (entry i).requires l.k l.at l.labels l.invariant i.loop-k-test.true w.new.labels
+    given-more a.numbers.now a.sizes.now a.labels.now (length a.labels.now) (entry i.before).requires l.k l.at l.labels l.invariant i.loop-k-test.true w.new.labels
     (w.ensures ∙ ap (λ (n : ℕ). labelled n part l.labels) (labelling c).label_of.ensures)
 
 same_length : tie.Need-shape_of-labels invariant-loop decreases-loop
