@@ -159,11 +159,11 @@ make_card_spec =
     tie.close
     (tie.spec
     (λ c. search rules)
-    (λ c. let s = c in sym (length-take-le (places s) s.args.order.now s.requires.2))
+    (λ c. let s = c in sym (length-take-le (places s.before.before.before.before.before.before) s.args.order.now s.requires.2))
     (λ c. search rules)
-    (λ c. let s = c in sym (length-take-le (places s) s.args.other.now s.requires.3))
+    (λ c. let s = c in sym (length-take-le (places s.before.before.before.before.before.before.before) s.args.other.now s.requires.3))
     (λ c. search rules)
-    (λ c. let s = c in sym (length-take-le (places s) s.args.keys.now s.requires.4))
+    (λ c. let s = c in sym (length-take-le (places s.before.before.before.before.before.before.before.before) s.args.keys.now s.requires.4))
     (λ c. search rules)
     (λ c. search rules)
     divide-pixels-requires
@@ -174,15 +174,15 @@ make_card_spec =
     (λ c. search rules)
     returns
     (λ c. search rules)
-    (λ c. sym (length-take-le _ _ (room c).1))
+    (λ c. sym (length-take-le _ _ (room c.before).1))
     write-labels-requires
     (λ c. search rules)
     add-columns-requires
     (λ c. search rules)
     (λ c. search rules)
-    (λ c. sym (length-take-le _ _ (room (fitting (labelled c))).0))
+    (λ c. sym (length-take-le _ _ (room (fitting (labelled c.before.before))).0))
     (λ c. search rules)
-    (λ c. sym (length-take-le _ _ (room (fitting (labelled c))).1))
+    (λ c. sym (length-take-le _ _ (room (fitting (labelled c.before.before.before))).1))
     (λ c. search rules)
     entries-of-requires
     (λ c. search rules)
