@@ -166,11 +166,7 @@ pub fn kistrovu_verdict(histogram: &[u32], rising: bool, closeness: i32) -> Verd
 }
 
 // The modes of a line: its separators, rising, in the first places of the list. Grounds 6, 7, 8, 10.
-pub fn kistrovu_line_modes(
-    histogram: &[u32],
-    closeness: i32,
-    separators: &mut [u32],
-) -> ModesAnswer
+pub fn kistrovu_line_modes(histogram: &[u32], closeness: i32, separators: &mut [u32]) -> ModesAnswer
     ensures { (result ≡ line_answer closeness histogram.now (length separators.old))
         × (separators.new ≡ line_list closeness histogram.now separators.old)
         × IfServed result.number (LineFinished closeness histogram.now) }
@@ -193,11 +189,7 @@ pub fn kistrovu_line_modes(
 }
 
 // The modes of a ring, joined all round it: its separators, from the lowest bin number up, in the first places of the list. Grounds 6, 7, 8, 10.
-pub fn kistrovu_ring_modes(
-    histogram: &[u32],
-    closeness: i32,
-    separators: &mut [u32],
-) -> ModesAnswer
+pub fn kistrovu_ring_modes(histogram: &[u32], closeness: i32, separators: &mut [u32]) -> ModesAnswer
     ensures { (result ≡ ring_answer closeness histogram.now (length separators.old))
         × (separators.new ≡ ring_list closeness histogram.now separators.old)
         × IfServed result.number (RingFinished closeness histogram.now × RingOrdered closeness histogram.now) }

@@ -26,57 +26,57 @@ abbrev places : tie.Start → ℕ
 places s = length s.args.labels.now
 
 -- ---- the number, as far as it is known before the entries are found
-asked : (g : tie.After-card-asked) → let s = g.before.before.before in g.card-asked.result ≡ asked_number s.args.closeness s.args.pixels.now (places s)
-asked g = let s = g.before.before.before in g.card-asked.ensures ∙ ap (λ (e : Closeness). asked_number e s.args.pixels.now (places s)) (as-given s)
+asked : (g : tie.After-card_asked-number) → let s = g in g.card_asked-number.result ≡ asked_number s.args.closeness s.args.pixels.now (places s.before.before.before)
+asked g = let s = g in g.card_asked-number.ensures ∙ ap (λ (e : Closeness). asked_number e s.args.pixels.now (places s.before.before.before)) (as-given s.before.before.before)
 
-returns : tie.Need-returns
+returns : tie.Need-returns-then-number-ne0
 unfolding card_answer label_list
 returns c =
-    let g = c.before.before in
-    let s = g.before.before.before in
-    let some = c.before.if1.true in
-    let n : g.card-asked.result ≡ card_number s.args.closeness s.args.pixels.now (places s) =
-    asked g ∙ sym (card-turned-down s.args.closeness s.args.pixels.now (places s) (λ z. some (asked g ∙ z))) in
-    card-refused s.args.closeness s.args.pixels.now _ (λ z. some (n ∙ z)) s.args.labels.now c.Turned-down.result (rw n at c.Turned-down.ensures)
+    let g = c in
+    let s = g in
+    let some = c.if-number-ne0.true in
+    let n : g.card_asked-number.result ≡ card_number s.args.closeness s.args.pixels.now (places s.before.before.before.before.before) =
+    asked g.before.before ∙ sym (card-turned-down s.args.closeness s.args.pixels.now (places s.before.before.before.before.before) (λ z. some (asked g.before.before ∙ z))) in
+    card-refused s.args.closeness s.args.pixels.now _ (λ z. some (n ∙ z)) s.args.labels.now c.turned_down.result (rw n at c.turned_down.ensures)
 
 -- ---- no ground before the entries holds
-none : (t : tie.Else1) → let s = t.before.before.before.before in asked_number s.args.closeness s.args.pixels.now (places s) ≡ 0
-none t = sym (asked t.before) ∙ t.if1.false
+none : (t : tie.Else-number-ne0) → let s = t in asked_number s.args.closeness s.args.pixels.now (places s.before.before.before.before) ≡ 0
+none t = sym (asked t.before) ∙ t.if-number-ne0.false
 
-fit : (t : tie.Else1) → let s = t.before.before.before.before in Asked s.args.closeness s.args.pixels.now (places s)
-fit t = let s = t.before.before.before.before in asked-none s.args.closeness s.args.pixels.now (places s) (none t)
+fit : (t : tie.Else-number-ne0) → let s = t in Asked s.args.closeness s.args.pixels.now (places s.before.before.before.before)
+fit t = let s = t in asked-none s.args.closeness s.args.pixels.now (places s.before.before.before.before) (none t)
 
-setting-of-requires : tie.Need-setting-of-requires
+setting-of-requires : tie.Need-setting_of-requires
 setting-of-requires c κs = rw (as-given c.before.before.before.before) (fit c).close
 
-unsized-card-requires : tie.Need-unsized-card-requires
-unsized-card-requires c κs = let f = fit c.before.before in (f.threes, f.few, c.before.setting-of.ensures.0)
+unsized-card-requires : tie.Need-unsized_card-requires
+unsized-card-requires c κs = let f = fit c.before.before in (f.threes, f.few, c.setting_of.ensures.0)
 
 -- the way back from the card made, and what was made, at the closeness itself
-abbrev passed : tie.After-unsized-card → tie.Else1
+abbrev passed : tie.After-unsized_card → tie.Else-number-ne0
 passed m = m.before.before.before
 
-abbrev start : tie.After-unsized-card → tie.Start
+abbrev start : tie.After-unsized_card → tie.Start
 start m = (passed m).before.before.before.before
 
-closeness-is : (m : tie.After-unsized-card) → closeness_of m.before.before.setting-of.result ≡ (start m).args.closeness
-closeness-is m = m.before.before.setting-of.ensures.1 ∙ as-given (start m)
+closeness-is : (m : tie.After-unsized_card) → closeness_of m.setting_of.result ≡ (start m).args.closeness
+closeness-is m = m.setting_of.ensures.1 ∙ as-given (start m)
 
-returns-2 : tie.Need-returns-2
+returns-2 : tie.Need-returns
 unfolding card_answer label_list
 returns-2 c =
-    let m = c.before.before.before in
-    let s = start m in
+    let m = c in
+    let s = start m.before.before.before in
     let bytes = s.args.pixels.now in
     let e = s.args.closeness in
-    let made = m.unsized-card.ensures in
-    let byte : (j : ℕ) → get_or bytes j 0 < 256 = λ j. let known = (passed m).before.before.before.shared-slice-known.given j in omega arith in
-    card-answered e bytes _ (card-asked e bytes (places s) (none (passed m))) (card-sound e bytes (places s) byte (fit (passed m))) s.args.labels.now c.answered.result m.unsized-card.new.1.1.0
-    (c.answered.ensures ∙ ap card_by (made.0 ∙ ap (λ (f : Closeness). card_entries f (pixels_of bytes)) (closeness-is m)))
-    (made.1 ∙ ap (λ (f : Closeness). labels_left f (pixels_of bytes) s.args.labels.now) (closeness-is m))
+    let made = m.unsized_card.ensures in
+    let byte : (j : ℕ) → get_or bytes j 0 < 256 = λ j. let known = (passed m.before.before.before).shared_slice_known-1.given j in omega arith in
+    card-answered e bytes _ (card-asked e bytes (places s) (none (passed m.before.before.before))) (card-sound e bytes (places s) byte (fit (passed m.before.before.before))) s.args.labels.now c.answered.result m.unsized_card.new.labels
+    (c.answered.ensures ∙ ap card_by (made.0 ∙ ap (λ (f : Closeness). card_entries f (pixels_of bytes)) (closeness-is m.before.before.before)))
+    (made.1 ∙ ap (λ (f : Closeness). labels_left f (pixels_of bytes) s.args.labels.now) (closeness-is m.before.before.before))
 
-pub kistrovu-card-spec : {M : Type 1} → statement M
-kistrovu-card-spec =
+pub kistrovu_card_spec : {M : Type 1} → statement M
+kistrovu_card_spec =
     tie.close
     (tie.spec
     (λ c κs. search rules)

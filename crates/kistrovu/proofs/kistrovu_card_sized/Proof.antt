@@ -32,63 +32,63 @@ abbrev places : tie.Start → ℕ
 places s = length s.args.labels.now
 
 -- ---- the number, as far as it is known before the entries are found
-asked : (g : tie.After-sized-asked) → let s = g.before.before.before in g.sized-asked.result ≡ sized_asked_number (shape s) s.args.closeness s.args.pixels.now (places s)
-asked g = let s = g.before.before.before in g.sized-asked.ensures ∙ ap (λ (e : Closeness). sized_asked_number (shape s) e s.args.pixels.now (places s)) (as-given s)
+asked : (g : tie.After-sized_asked-number) → let s = g in g.sized_asked-number.result ≡ sized_asked_number (shape s.before.before.before) s.args.closeness s.args.pixels.now (places s.before.before.before)
+asked g = let s = g in g.sized_asked-number.ensures ∙ ap (λ (e : Closeness). sized_asked_number (shape s.before.before.before) e s.args.pixels.now (places s.before.before.before)) (as-given s.before.before.before)
 
-returns : tie.Need-returns
+returns : tie.Need-returns-then-number-ne0
 unfolding sized_answer sized_list
 returns c =
-    let g = c.before.before in
-    let s = g.before.before.before in
-    let some = c.before.if1.true in
-    let n : g.sized-asked.result ≡ sized_number (shape s) s.args.closeness s.args.pixels.now (places s) =
-    asked g ∙ sym (sized-turned-down (shape s) s.args.closeness s.args.pixels.now (places s) (λ z. some (asked g ∙ z))) in
-    card-refused s.args.closeness s.args.pixels.now _ (λ z. some (n ∙ z)) s.args.labels.now c.Turned-down.result (rw n at c.Turned-down.ensures)
+    let g = c in
+    let s = g in
+    let some = c.if-number-ne0.true in
+    let n : g.sized_asked-number.result ≡ sized_number (shape s.before.before.before.before.before) s.args.closeness s.args.pixels.now (places s.before.before.before.before.before) =
+    asked g.before.before ∙ sym (sized-turned-down (shape s.before.before.before.before.before) s.args.closeness s.args.pixels.now (places s.before.before.before.before.before) (λ z. some (asked g.before.before ∙ z))) in
+    card-refused s.args.closeness s.args.pixels.now _ (λ z. some (n ∙ z)) s.args.labels.now c.turned_down.result (rw n at c.turned_down.ensures)
 
 -- ---- no ground before the entries holds
-none : (t : tie.Else1) → let s = t.before.before.before.before in
-    ((wrong_shape (shape s) s.args.pixels.now).holds ≡ false) × (asked_number s.args.closeness s.args.pixels.now (places s) ≡ 0)
-none t = let s = t.before.before.before.before in sized-asked-none (shape s) s.args.closeness s.args.pixels.now (places s) (sym (asked t.before) ∙ t.if1.false)
+none : (t : tie.Else-number-ne0) → let s = t in
+    ((wrong_shape (shape s.before.before.before.before) s.args.pixels.now).holds ≡ false) × (asked_number s.args.closeness s.args.pixels.now (places s.before.before.before.before) ≡ 0)
+none t = let s = t in sized-asked-none (shape s.before.before.before.before) s.args.closeness s.args.pixels.now (places s.before.before.before.before) (sym (asked t.before) ∙ t.if-number-ne0.false)
 
-fit : (t : tie.Else1) → let s = t.before.before.before.before in Asked s.args.closeness s.args.pixels.now (places s)
-fit t = let s = t.before.before.before.before in asked-none s.args.closeness s.args.pixels.now (places s) (none t).1
+fit : (t : tie.Else-number-ne0) → let s = t in Asked s.args.closeness s.args.pixels.now (places s.before.before.before.before)
+fit t = let s = t in asked-none s.args.closeness s.args.pixels.now (places s.before.before.before.before) (none t).1
 
-setting-of-requires : tie.Need-setting-of-requires
+setting-of-requires : tie.Need-setting_of-requires
 setting-of-requires c κs = rw (as-given c.before.before.before.before) (fit c).close
 
-sized-card-requires : tie.Need-sized-card-requires
+sized-card-requires : tie.Need-sized_card-requires
 sized-card-requires c κs =
-    let t = c.before.before in
-    let s = t.before.before.before.before in
-    let f = fit t in
-    let r = shape-right (shape s) s.args.pixels.now (none t).0 in
-    (record { threes = f.threes; few = f.few; shaped = omega (arith, f.threes, r.2) }, omega (arith, f.threes, r.1, r.2), c.before.setting-of.ensures.0)
+    let t = c in
+    let s = t in
+    let f = fit t.before.before in
+    let r = shape-right (shape s.before.before.before.before.before.before) s.args.pixels.now (none t.before.before).0 in
+    (record { threes = f.threes; few = f.few; shaped = omega (arith, f.threes, r.2) }, omega (arith, f.threes, r.1, r.2), c.setting_of.ensures.0)
 
 -- the way back from the card made, and what was made, at the closeness itself
-abbrev passed : tie.After-sized-card → tie.Else1
+abbrev passed : tie.After-sized_card → tie.Else-number-ne0
 passed m = m.before.before.before
 
-abbrev start : tie.After-sized-card → tie.Start
+abbrev start : tie.After-sized_card → tie.Start
 start m = (passed m).before.before.before.before
 
-closeness-is : (m : tie.After-sized-card) → closeness_of m.before.before.setting-of.result ≡ (start m).args.closeness
-closeness-is m = m.before.before.setting-of.ensures.1 ∙ as-given (start m)
+closeness-is : (m : tie.After-sized_card) → closeness_of m.setting_of.result ≡ (start m).args.closeness
+closeness-is m = m.setting_of.ensures.1 ∙ as-given (start m)
 
-returns-2 : tie.Need-returns-2
+returns-2 : tie.Need-returns
 unfolding sized_answer sized_list
 returns-2 c =
-    let m = c.before.before.before in
-    let s = start m in
+    let m = c in
+    let s = start m.before.before.before in
     let bytes = s.args.pixels.now in
     let e = s.args.closeness in
-    let made = m.sized-card.ensures in
-    let byte : (j : ℕ) → get_or bytes j 0 < 256 = λ j. let known = (passed m).before.before.before.shared-slice-known.given j in omega arith in
-    card-answered e bytes _ (sized-asks (shape s) e bytes (places s) (none (passed m)).0 ∙ card-asked e bytes (places s) (none (passed m)).1) (card-sound e bytes (places s) byte (fit (passed m))) s.args.labels.now c.answered.result m.sized-card.new.1.1.1.0
-    (c.answered.ensures ∙ ap card_by (made.0 ∙ ap (λ (f : Closeness). card_entries f (pixels_of bytes)) (closeness-is m)))
-    (made.1 ∙ ap (λ (f : Closeness). labels_left f (pixels_of bytes) s.args.labels.now) (closeness-is m))
+    let made = m.sized_card.ensures in
+    let byte : (j : ℕ) → get_or bytes j 0 < 256 = λ j. let known = (passed m.before.before.before).shared_slice_known-1.given j in omega arith in
+    card-answered e bytes _ (sized-asks (shape s) e bytes (places s) (none (passed m.before.before.before)).0 ∙ card-asked e bytes (places s) (none (passed m.before.before.before)).1) (card-sound e bytes (places s) byte (fit (passed m.before.before.before))) s.args.labels.now c.answered.result m.sized_card.new.labels
+    (c.answered.ensures ∙ ap card_by (made.0 ∙ ap (λ (f : Closeness). card_entries f (pixels_of bytes)) (closeness-is m.before.before.before)))
+    (made.1 ∙ ap (λ (f : Closeness). labels_left f (pixels_of bytes) s.args.labels.now) (closeness-is m.before.before.before))
 
-pub kistrovu-card-sized-spec : {M : Type 1} → statement M
-kistrovu-card-sized-spec =
+pub kistrovu_card_sized_spec : {M : Type 1} → statement M
+kistrovu_card_sized_spec =
     tie.close
     (tie.spec
     (λ c κs. search rules)

@@ -19,53 +19,53 @@ as-given : (s : tie.Start) → to_z w32 (of_z w32 s.args.closeness) ≡ s.args.c
 as-given s = to_z-of_z w32 s.args.closeness s.ranges.closeness
 
 -- the way to the function's entry
-abbrev entry : tie.After-log-number → tie.Start
+abbrev entry : tie.After-log_number-number → tie.Start
 entry c = c.before.before
 
-log-number-requires : tie.Need-log-number-requires
+log-number-requires : tie.Need-log_number-number-requires
 log-number-requires c κs = search rules
 
-number : (c : tie.After-log-number) → let a = (entry c).args in c.log-number.result ≡ log_number a.closeness a.histogram.now (length a.log.now)
+number : (c : tie.After-log_number-number) → let a = (entry c).args in c.log_number-number.result ≡ log_number a.closeness a.histogram.now (length a.log.now)
 number c =
     let s = entry c in
-    c.log-number.ensures ∙ ap (λ (e : Closeness). log_number e s.args.histogram.now (length s.args.log.now)) (as-given s)
+    c.log_number-number.ensures ∙ ap (λ (e : Closeness). log_number e s.args.histogram.now (length s.args.log.now)) (as-given s)
 
-zero_number : (c : tie.After-log-number) → c.log-number.result ≡ 0 → let a = (entry c).args in log_number a.closeness a.histogram.now (length a.log.now) ≡ 0
+zero_number : (c : tie.After-log_number-number) → c.log_number-number.result ≡ 0 → let a = (entry c).args in log_number a.closeness a.histogram.now (length a.log.now) ≡ 0
 zero_number c z = sym (number c) ∙ z
 
-returns : tie.Need-returns
+returns : tie.Need-returns-then-number-ne0
 returns c =
-    let m = c.before in
-    let a = (entry m).args in
-    let down = log-turned-down a.closeness a.histogram.now a.log.now _ (number m) c.if1.true in
-    (down.answer, down.left, λ z. absurd (c.if1.true z))
+    let m = c in
+    let a = (entry m.before).args in
+    let down = log-turned-down a.closeness a.histogram.now a.log.now _ (number m.before) c.if-number-ne0.true in
+    (down.answer, down.left, λ z. absurd (c.if-number-ne0.true z))
 
-setting-of-requires : tie.Need-setting-of-requires
+setting-of-requires : tie.Need-setting_of-requires
 setting-of-requires c κs =
-    let m = c.before in
-    let a = (entry m).args in
-    rw (as-given (entry m)) (log-accepted a.closeness a.histogram.now (length a.log.now) (zero_number m c.if1.false)).close
+    let m = c in
+    let a = (entry m.before).args in
+    rw (as-given (entry m.before)) (log-accepted a.closeness a.histogram.now (length a.log.now) (zero_number m.before c.if-number-ne0.false)).close
 
-line-log-requires : tie.Need-line-log-requires
+line-log-requires : tie.Need-line_log-requires
 line-log-requires c κs =
-    let m = c.before.before.before in
-    let a = (entry m).args in
-    let z = zero_number m c.before.before.if1.false in
+    let m = c in
+    let a = (entry m.before.before.before).args in
+    let z = zero_number m.before.before.before c.if-number-ne0.false in
     let served = log-accepted a.closeness a.histogram.now (length a.log.now) z in
-    (accepted-small served, (served.histogram.some, c.before.setting-of.ensures.0, log-room a.closeness a.histogram.now (length a.log.now) z))
+    (accepted-small served, (served.histogram.some, c.setting_of.ensures.0, log-room a.closeness a.histogram.now (length a.log.now) z))
 
-same_length : tie.Need-same-length
+same_length : tie.Need-shape_of-log
 same_length c = search rules
 
-returns-2 : tie.Need-returns-2
+returns-2 : tie.Need-returns
 returns-2 c =
-    let f = c.before.line-log in
-    let setting = c.before.before.before in
-    let m = setting.before.before in
-    let a = (entry m).args in
-    let is : closeness_of setting.setting-of.result ≡ a.closeness = setting.setting-of.ensures.1 ∙ as-given (entry m) in
-    let logged = log-served a.closeness a.histogram.now a.log.now (zero_number m setting.before.if1.false) _ is _ _ f.ensures.0 f.ensures.1 in
+    let f = c.line_log in
+    let setting = c in
+    let m = setting in
+    let a = (entry m.before.before.before.before.before).args in
+    let is : closeness_of setting.setting_of.result ≡ a.closeness = setting.setting_of.ensures.1 ∙ as-given (entry m.before.before.before.before.before) in
+    let logged = log-served a.closeness a.histogram.now a.log.now (zero_number m.before.before.before.before.before setting.if-number-ne0.false) _ is _ _ f.ensures.0 f.ensures.1 in
     (logged.answer, logged.left, λ z. log-always-sound a.closeness a.histogram.now)
 
-pub kistrovu-join-log-spec : {M : Type 1} → statement M
-kistrovu-join-log-spec = tie.close (tie.spec log-number-requires returns setting-of-requires line-log-requires same_length returns-2)
+pub kistrovu_join_log_spec : {M : Type 1} → statement M
+kistrovu_join_log_spec = tie.close (tie.spec log-number-requires returns setting-of-requires line-log-requires same_length returns-2)

@@ -13,5 +13,5 @@ returns : tie.Need-returns
 unfolding measures_answer
 returns c = ap (λ (m : Measures). record { number = 0; measures = m }) c.measure.ensures
 
-pub kistrovu-measures-spec : {M : Type 1} → statement M
-kistrovu-measures-spec = tie.close (tie.spec measure-requires returns)
+pub kistrovu_measures_spec : {M : Type 1} → statement M
+kistrovu_measures_spec = tie.close (tie.spec measure-requires returns)

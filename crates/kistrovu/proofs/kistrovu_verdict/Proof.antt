@@ -19,45 +19,45 @@ use Rattle.kistrovu.proofs.kistrovu_verdict.Tie as tie
 as-given : (s : tie.Start) → to_z w32 (of_z w32 s.args.closeness) ≡ s.args.closeness
 as-given s = to_z-of_z w32 s.args.closeness s.ranges.closeness
 
-verdict-number-requires : tie.Need-verdict-number-requires
+verdict-number-requires : tie.Need-verdict_number-number-requires
 verdict-number-requires c κs = search rules
 
-number : (c : tie.After-verdict-number) → let s = c.before.before in c.verdict-number.result ≡ verdict_number s.args.closeness s.args.histogram.now
-number c = let s = c.before.before in c.verdict-number.ensures ∙ ap (λ (e : Closeness). verdict_number e s.args.histogram.now) (as-given s)
+number : (c : tie.After-verdict_number-number) → let s = c in c.verdict_number-number.result ≡ verdict_number s.args.closeness s.args.histogram.now
+number c = let s = c in c.verdict_number-number.ensures ∙ ap (λ (e : Closeness). verdict_number e s.args.histogram.now) (as-given s.before.before)
 
-setting-of-requires : tie.Need-setting-of-requires
+setting-of-requires : tie.Need-setting_of-requires
 setting-of-requires c κs =
-    let s = c.before.before.before in
-    rw (as-given s) (verdict-served s.args.closeness s.args.histogram.now (sym (number c.before) ∙ c.if1.true)).1
+    let s = c in
+    rw (as-given s.before.before.before) (verdict-served s.args.closeness s.args.histogram.now (sym (number c.before) ∙ c.if-number-eq0.true)).1
 
 judge-requires : tie.Need-judge-requires
 judge-requires c κs =
-    let n = c.before.before in
-    let s = n.before.before in
-    let v = verdict-served s.args.closeness s.args.histogram.now (sym (number n) ∙ c.before.if1.true) in
+    let n = c in
+    let s = n in
+    let v = verdict-served s.args.closeness s.args.histogram.now (sym (number n.before.before) ∙ c.if-number-eq0.true) in
     let a = fit-served s.args.histogram.now v.0 in
-    (record { bins = omega (arith, a.bins); counts = omega (arith, a.counts) }, (omega (arith, a.some), c.setting-of.ensures.0))
+    (record { bins = omega (arith, a.bins); counts = omega (arith, a.counts) }, (omega (arith, a.some), c.setting_of.ensures.0))
 
-returns : tie.Need-returns
+returns : tie.Need-returns-then-number-eq0
 unfolding verdict_answer
 returns c =
-    let n = c.before.before.before in
-    let s = n.before.before in
-    let z = sym (number n) ∙ c.before.before.if1.true in
+    let n = c in
+    let s = n in
+    let z = sym (number n.before.before.before) ∙ c.if-number-eq0.true in
     let a = fit-served s.args.histogram.now (verdict-served s.args.closeness s.args.histogram.now z).0 in
-    let judged = c.judge.ensures ∙ ap (λ (e : Closeness). verdict_of e (direction s.args.rising) s.args.histogram.now) (c.before.setting-of.ensures.1 ∙ as-given s) in (
+    let judged = c.judge.ensures ∙ ap (λ (e : Closeness). verdict_of e (direction s.args.rising) s.args.histogram.now) (c.setting_of.ensures.1 ∙ as-given s.before.before.before.before.before) in (
       rw (eq-eqb _ _ z) (λ k. record { number = sym z k; verdict = judged k }),
       λ u. verdict-sound s.args.closeness (direction s.args.rising) s.args.histogram.now (omega (arith, a.bins)) (omega (arith, a.counts)),
     )
 
-returns-2 : tie.Need-returns-2
+returns-2 : tie.Need-returns-else-number-eq0
 unfolding verdict_answer
 returns-2 c =
-    let n = c.before in (
-      rw (ne_eqb _ _ (λ z. c.if1.false (number n ∙ z))) (λ k. record { number = number n k; verdict = no_verdict }),
-      λ z. absurd (c.if1.false z),
+    let n = c in (
+      rw (ne_eqb _ _ (λ z. c.if-number-eq0.false (number n.before ∙ z))) (λ k. record { number = number n.before k; verdict = no_verdict }),
+      λ z. absurd (c.if-number-eq0.false z),
     )
 
-pub kistrovu-verdict-spec : {M : Type 1} → statement M
-kistrovu-verdict-spec =
+pub kistrovu_verdict_spec : {M : Type 1} → statement M
+kistrovu_verdict_spec =
     tie.close (tie.spec verdict-number-requires setting-of-requires judge-requires returns returns-2)

@@ -8,13 +8,13 @@ use Rattle.kistrovu.specs.Images.{card_by}
 use Rattle.kistrovu.proofs.images.answered.Statement.{statement}
 use Rattle.kistrovu.proofs.images.answered.Tie as tie
 
-returns : tie.Need-returns
+returns : tie.Need-returns-then-made-gt-MOST_ENTRIES
 unfolding card_by most_entries
-returns c = rw (lt-ltb most_entries c.before.before.before.args.made.total (omega arith)) refl
+returns c = rw (lt-ltb most_entries c.args.made.total (omega arith)) refl
 
-returns-2 : tie.Need-returns-2
+returns-2 : tie.Need-returns
 unfolding card_by most_entries
-returns-2 c = rw (le-ltb most_entries c.before.before.before.args.made.total (omega arith)) refl
+returns-2 c = rw (le-ltb most_entries c.args.made.total (omega arith)) refl
 
-pub answered-spec : {M : Type 1} → statement M
-answered-spec = tie.close (tie.spec (λ c. search rules) returns returns-2)
+pub answered_spec : {M : Type 1} → statement M
+answered_spec = tie.close (tie.spec (λ c. search rules) returns returns-2)

@@ -7,7 +7,7 @@ use Rattle.kistrovu.proofs.images.turned_down.Tie as tie
 
 returns : tie.Need-returns
 unfolding no_card
-returns c = rw c.no-entries.ensures refl
+returns c = rw c.no_entries.ensures refl
 
-pub turned-down-spec : {M : Type 1} → statement M
-turned-down-spec = tie.close (tie.spec (λ c κs. search rules) returns)
+pub turned_down_spec : {M : Type 1} → statement M
+turned_down_spec = tie.close (tie.spec (λ c κs. search rules) returns)

@@ -19,65 +19,65 @@ use Rattle.kistrovu.proofs.printing.print_in.Statement.{statement}
 use Rattle.kistrovu.proofs.printing.print_in.Tie as tie
 
 -- ---- the ways back: to the call, to the reading of the text, and to the test of its number
-abbrev start : tie.After-read → tie.Start
+abbrev start : tie.After-read-reading → tie.Start
 start r = r.before.before.before.before.before.before
 
-abbrev reading : tie.Else1 → tie.After-read
+abbrev reading : tie.Else-reading-ne0 → tie.After-read-reading
 reading t = t.before.before.before.before
 
-abbrev served : tie.After-area-of → tie.Else1
+abbrev served : tie.After-area_of-n → tie.Else-reading-ne0
 served a = a.before.before
 
-abbrev text : tie.After-read → List ℕ
+abbrev text : tie.After-read-reading → List ℕ
 text r = (start r).args.text.now
 
-number : (r : tie.After-read) → r.read.result.number ≡ swatch_number (text r)
+number : (r : tie.After-read-reading) → r.read-reading.result.number ≡ swatch_number (text r)
 unfolding reading_of
-number r = ap (λ (x : Reading). x.number) r.read.ensures.0
+number r = ap (λ (x : Reading). x.number) r.read-reading.ensures.0
 
-returns : tie.Need-returns
+returns : tie.Need-returns-then-reading-ne0
 returns c =
-    let r = c.before.before.before.before in
-    text-refused (text r) (start r).args.out.now r.read.result.number (number r) c.if1.true
+    let r = c in
+    text-refused (text r.before.before.before.before) (start r.before.before.before.before).args.out.now r.read-reading.result.number (number r.before.before.before.before) c.if-reading-ne0.true
 
 -- ---- a text that is read
-none : (t : tie.Else1) → swatch_number (text (reading t)) ≡ 0
-none t = sym (number (reading t)) ∙ t.if1.false
+none : (t : tie.Else-reading-ne0) → swatch_number (text (reading t)) ≡ 0
+none t = sym (number (reading t)) ∙ t.if-reading-ne0.false
 
 -- its size is that of a swatch
-good : (a : tie.After-area-of) → bad_size a.area_of.result ≡ false
+good : (a : tie.After-area_of-n) → bad_size a.area_of-n.result ≡ false
 good a =
     let r = reading (served a) in
-    let shape = ap (λ (x : Reading). area x.shape) (r.read.ensures.0 ∙ sym (reading-served (text r) (none (served a)))) in
-    ap bad_size (a.area_of.ensures ∙ shape) ∙ number-served (text r) (none (served a))
+    let shape = ap (λ (x : Reading). area x.shape) (r.read-reading.ensures.0 ∙ sym (reading-served (text r) (none (served a)))) in
+    ap bad_size (a.area_of-n.ensures ∙ shape) ∙ number-served (text r) (none (served a))
 
-few : (a : tie.After-area-of) → a.area_of.result ≤ 16384
+few : (a : tie.After-area_of-n) → a.area_of-n.result ≤ 16384
 unfolding most_swatch_pixels
-few a = (size_fits a.area_of.result (good a)).1
+few a = (size_fits a.area_of-n.result (good a)).1
 
 -- there is room for its pixels and its labels
-room : (a : tie.After-area-of) → let r = reading (served a) in (3 * a.area_of.result ≤ length r.read.last.1.0) × (a.area_of.result ≤ length (start r).args.labels.now)
+room : (a : tie.After-area_of-n) → let r = reading (served a) in (3 * a.area_of-n.result ≤ length r.read-reading.new.bytes) × (a.area_of-n.result ≤ length (start r).args.labels.now)
 unfolding most_swatch_pixels
-room a = let r = reading (served a) in (omega (arith, few a, (start r).pre.0, r.read.kept.1.0), omega (arith, few a, (start r).pre.1))
+room a = let r = reading (served a) in (omega (arith, few a, (start r).requires.0, r.read-reading.auto.bytes), omega (arith, few a, (start r).requires.1))
 
-print-pixels-requires : tie.Need-print-pixels-requires
+print-pixels-requires : tie.Need-print_pixels-requires
 unfolding most_pixels
 print-pixels-requires c κs =
-    let a = c.before.before.before in
-    let r = reading (served a) in
-    let bytes = length-take-le (3 * a.area_of.result) r.read.last.1.0 (room a).0 in
-    let labels = length-take-le a.area_of.result (start r).args.labels.now (room a).1 in
-    (record { threes = omega (arith, bytes, labels); few = omega (arith, labels, few a); shaped = sym a.area_of.ensures ∙ sym labels }, rw labels (good a), (start r).pre.2)
+    let a = c in
+    let r = reading (served a.before.before) in
+    let bytes = length-take-le (3 * a.area_of-n.result) r.read-reading.new.bytes (room a.before.before).0 in
+    let labels = length-take-le a.area_of-n.result (start r).args.labels.now (room a.before.before).1 in
+    (record { threes = omega (arith, bytes, labels); few = omega (arith, labels, few a.before.before); shaped = sym a.area_of-n.ensures ∙ sym labels }, rw labels (good a.before.before), (start r).requires.2)
 
-returns-2 : tie.Need-returns-2
+returns-2 : tie.Need-returns
 returns-2 c =
-    let a = c.before.before.before.before.before.before.before.before in
-    let r = reading (served a) in
-    let bytes = ap (λ (k : ℕ). take (3 * k) r.read.last.1.0) a.area_of.ensures ∙ r.read.ensures.1 (served a).if1.false in
-    text-made (text r) (start r).args.out.now _ _ (none (served a)) (rw bytes at c.before.before.before.before.print-pixels.ensures)
+    let a = c in
+    let r = reading (served a.before.before.before.before.before.before.before) in
+    let bytes = ap (λ (k : ℕ). take (3 * k) r.read-reading.new.bytes) a.area_of-n.ensures ∙ r.read-reading.ensures.1 (served a.before.before.before.before.before.before.before).if-reading-ne0.false in
+    text-made (text r) (start r).args.out.now _ _ (none (served a.before.before.before.before.before.before.before)) (rw bytes at c.print_pixels.ensures)
 
-pub print-in-spec : {M : Type 1} → statement M
-print-in-spec =
+pub print_in_spec : {M : Type 1} → statement M
+print_in_spec =
     tie.close
     (tie.spec
     (λ c κs. search rules)
@@ -86,9 +86,9 @@ print-in-spec =
     (λ c κs. search rules)
     (λ c. omega (arith, few c))
     (λ c. (room c).0)
-    (λ c. sym (length-take-le _ _ (room c.before).0))
-    (λ c. (room c.before).1)
-    (λ c. sym (length-take-le _ _ (room c.before.before).1))
+    (λ c. sym (length-take-le _ _ (room c).0))
+    (λ c. (room c).1)
+    (λ c. sym (length-take-le _ _ (room c.before).1))
     print-pixels-requires
     (λ c. search rules)
     (λ c. search rules)

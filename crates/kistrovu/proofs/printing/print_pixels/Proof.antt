@@ -21,96 +21,96 @@ use Rattle.kistrovu.proofs.printing.print_pixels.Statement.{statement}
 use Rattle.kistrovu.proofs.printing.print_pixels.Tie as tie
 
 -- ---- the card: the way back to the start, and what the call handed back
-abbrev start : tie.After-kistrovu-card-sized → tie.Start
+abbrev start : tie.After-kistrovu_card_sized-card → tie.Start
 start m = m.before.before.before.before.before
 
-abbrev pixels : tie.After-kistrovu-card-sized → List ℕ
+abbrev pixels : tie.After-kistrovu_card_sized-card → List ℕ
 pixels m = (start m).args.pixels.now
 
-abbrev places : tie.After-kistrovu-card-sized → ℕ
+abbrev places : tie.After-kistrovu_card_sized-card → ℕ
 places m = length (start m).args.labels.now
 
-abbrev found : tie.After-kistrovu-card-sized → List Entry
+abbrev found : tie.After-kistrovu_card_sized-card → List Entry
 found m = entries (pos program_closeness) (pixels_of (pixels m))
 
-handed : (m : tie.After-kistrovu-card-sized)
-    → let shape = (start m).args.shape in m.kistrovu-card-sized.result ≡ sized_answer shape.width shape.height (pos program_closeness) (pixels m) (places m)
+handed : (m : tie.After-kistrovu_card_sized-card)
+    → let shape = (start m).args.shape in m.kistrovu_card_sized-card.result ≡ sized_answer shape.width shape.height (pos program_closeness) (pixels m) (places m)
 unfolding program_closeness
-handed m = m.kistrovu-card-sized.ensures.0
+handed m = m.kistrovu_card_sized-card.ensures.0
 
-sound : (m : tie.After-kistrovu-card-sized) → SoundCard (pos program_closeness) (pixels_of (pixels m))
+sound : (m : tie.After-kistrovu_card_sized-card) → SoundCard (pos program_closeness) (pixels_of (pixels m))
 sound m =
     let p = (start m).requires in
-    swatch-sound _ (pixels m) (places m) p.0 p.1 (λ j. let known = m.before.before.before.before.shared-slice-known.given j in omega arith)
+    swatch-sound _ (pixels m) (places m) p.0 p.1 (λ j. let known = m.shared_slice_known-1.given j in omega arith)
 
-returns : tie.Need-returns
+returns : tie.Need-returns-then-card-ne0
 unfolding over
 returns c =
-    let m = c.before.before.before.before.before in
-    let p = (start m).requires in
-    let many = card-many _ (pixels m) (places m) p.0 p.1 m.kistrovu-card-sized.result (handed m) c.if1.true in
-    let number = card-number _ (pixels m) (places m) p.0 p.1 m.kistrovu-card-sized.result (handed m) in
-    (record { numbered = number; long = rw many refl; written = rw many refl }, sound m)
+    let m = c in
+    let p = (start m.before.before.before.before.before).requires in
+    let many = card-many _ (pixels m.before.before.before.before.before) (places m.before.before.before.before.before) p.0 p.1 m.kistrovu_card_sized-card.result (handed m.before.before.before.before.before) c.if-card-ne0.true in
+    let number = card-number _ (pixels m.before.before.before.before.before) (places m.before.before.before.before.before) p.0 p.1 m.kistrovu_card_sized-card.result (handed m.before.before.before.before.before) in
+    (record { numbered = number; long = rw many refl; written = rw many refl }, sound m.before.before.before.before.before)
 
 -- ---- a card that is printed
-abbrev made : tie.Else1 → tie.After-kistrovu-card-sized
+abbrev made : tie.Else-card-ne0 → tie.After-kistrovu_card_sized-card
 made t = t.before.before.before.before.before
 
-few : (t : tie.Else1) → length (found (made t)) ≤ most_entries
+few : (t : tie.Else-card-ne0) → length (found (made t)) ≤ most_entries
 few t =
     let m = made t in
-    let p = (start m).pre in
-    ltb-false most_entries (length (found m)) (card-few _ (pixels m) (places m) p.0 p.1 m.kistrovu-card-sized.result (handed m) t.if1.false)
+    let p = (start m).requires in
+    ltb-false most_entries (length (found m)) (card-few _ (pixels m) (places m) p.0 p.1 m.kistrovu_card_sized-card.result (handed m) t.if-card-ne0.false)
 
-held : (t : tie.Else1) → let r = (made t).kistrovu-card-sized.result in (r.len ≡ length (found (made t))) × (take r.len r.entries ≡ found (made t))
+held : (t : tie.Else-card-ne0) → let r = (made t).kistrovu_card_sized-card.result in (r.len ≡ length (found (made t))) × (take r.len r.entries ≡ found (made t))
 held t =
     let m = made t in
-    let p = (start m).pre in
-    card-entries _ (pixels m) (places m) p.0 p.1 m.kistrovu-card-sized.result (handed m) t.if1.false
+    let p = (start m).requires in
+    card-entries _ (pixels m) (places m) p.0 p.1 m.kistrovu_card_sized-card.result (handed m) t.if-card-ne0.false
 
 -- a label for each pixel
-labelled : (m : tie.After-kistrovu-card-sized) → length m.kistrovu-card-sized.new.1.1.1.1.0 ≡ places m
-labelled m = m.kistrovu-card-sized.auto.1.1.1.1.0
+labelled : (m : tie.After-kistrovu_card_sized-card) → length m.kistrovu_card_sized-card.new.labels ≡ places m
+labelled m = m.kistrovu_card_sized-card.auto.labels
 
-cast-print-card-2 : tie.Need-overflow-cast-print-card-2
+cast-print-card-2 : tie.Need-overflow_cast-labels
 unfolding most_pixels
-cast-print-card-2 c = let m = made c.before in omega (arith, labelled m, (start m).pre.0.few)
+cast-print-card-2 c = let m = made c.before in omega (arith, labelled m, (start m).requires.0.few)
 
-print-card-requires : tie.Need-print-card-requires
-print-card-requires c κs = let t = c.before.before in (omega (arith, (held t).0, few t), (start (made t)).requires.2)
+print-card-requires : tie.Need-print_card-requires
+print-card-requires c κs = let t = c in (omega (arith, (held t.before.before).0, few t.before.before), (start (made t.before.before)).requires.2)
 
-text : (t : tie.Else1) → let r = (made t).kistrovu-card-sized in
-    printed_card (length r.last.1.1.1.1.0) 0 (take r.result.len r.result.entries) ≡ printed_card (length (pixels_of (pixels (made t)))) 0 (found (made t))
+text : (t : tie.Else-card-ne0) → let r = (made t).kistrovu_card_sized-card in
+    printed_card (length r.new.labels) 0 (take r.result.len r.result.entries) ≡ printed_card (length (pixels_of (pixels (made t)))) 0 (found (made t))
 text t =
     let m = made t in
-    let long = labelled m ∙ sym (pixels-length (pixels m) (places m) (start m).pre.0.threes) in
-    ap (λ (xs : List Entry). printed_card (length m.kistrovu-card-sized.last.1.1.1.1.0) 0 xs) (held t).1 ∙ ap (λ (k : ℕ). printed_card k 0 (found m)) long
+    let long = labelled m ∙ sym (pixels-length (pixels m) (places m) (start m).requires.0.threes) in
+    ap (λ (xs : List Entry). printed_card (length m.kistrovu_card_sized-card.new.labels) 0 xs) (held t).1 ∙ ap (λ (k : ℕ). printed_card k 0 (found m)) long
 
-cast-t17 : tie.Need-overflow-cast-t17
+cast-t17 : tie.Need-overflow_cast-result
 unfolding most_entries printed_most
 cast-t17 c =
-    let t = c.before.before.before.before.before in
-    let w = c.before.before.print-card in
-    omega (arith, w.ensures.1, ap length (text t), printed-fits (length (pixels_of (pixels (made t)))) 0 (found (made t)) (few t))
+    let t = c in
+    let w = c.print_card in
+    omega (arith, w.ensures.1, ap length (text t.before.before.before.before.before), printed-fits (length (pixels_of (pixels (made t.before.before.before.before.before)))) 0 (found (made t.before.before.before.before.before)) (few t.before.before.before.before.before))
 
-returns-2 : tie.Need-returns-2
+returns-2 : tie.Need-returns
 unfolding program_closeness
 returns-2 c =
-    let t = c.before.before.before.before.before in
-    let m = made t in
-    let p = (start m).pre in
-    let w = c.before.before.print-card in
-    let one = card-few _ (pixels m) (places m) p.0 p.1 m.kistrovu-card-sized.result (handed m) t.if1.false in (
+    let t = c in
+    let m = made t.before.before.before.before.before in
+    let p = (start m).requires in
+    let w = c.print_card in
+    let one = card-few _ (pixels m) (places m) p.0 p.1 m.kistrovu_card_sized-card.result (handed m) t.if-card-ne0.false in (
       rw one (record {
         numbered = refl;
-        long = w.ensures.1 ∙ ap length (text t);
-        written = w.ensures.0 ∙ ap (λ (xs : List ℕ). over xs (start m).args.out.now) (text t);
+        long = w.ensures.1 ∙ ap length (text t.before.before.before.before.before);
+        written = w.ensures.0 ∙ ap (λ (xs : List ℕ). over xs (start m).args.out.now) (text t.before.before.before.before.before);
       }),
       sound m,
     )
 
-pub print-pixels-spec : {M : Type 1} → statement M
-print-pixels-spec =
+pub print_pixels_spec : {M : Type 1} → statement M
+print_pixels_spec =
     tie.close
     (tie.spec
     (λ c. search rules)
