@@ -1,6 +1,6 @@
 -- `add_column` meets its contract. The loop's invariant: the pixels of the columns to the left are added, and those in the rows passed of this one. Assumes nothing.
-use Prim.Native.Nat.{ℕ, ◌+◌, ◌-◌, ◌*◌, ◌%◌, ◌≤◌, ◌<◌}
-use mathlib.Core.Path.{◌≡◌, refl, sym, ap, ◌∙◌}
+use Prim.Native.Nat.{ℕ, ◌+◌, ◌-◌, ◌*◌, ◌≤◌, ◌<◌}
+use mathlib.Core.Path.{◌≡◌, sym, ap, ◌∙◌}
 use mathlib.Core.Bool.{◌||◌}
 use native.Mathlib.Omega.{arith}
 use lib.Dec.{eqb}
@@ -12,7 +12,7 @@ use Rattle.palette.proofs.Triples.{pixels-bytes}
 use Rattle.pixel.specs.declared.Pixel.{Pixel}
 use Rattle.columns.specs.Columns.{PixelsAdded, with_pixel}
 use Rattle.columns.proofs.Cells.{cell-within, passed, passed_first, passed-not-yet, passed-next, passed-all}
-use Rattle.columns.proofs.Added.{with-pixel-length, added-same, added-few, added_more}
+use Rattle.columns.proofs.Added.{added-same, added-few, added_more}
 use Rattle.columns.proofs.add_column.Statement.{statement}
 use Rattle.columns.proofs.add_column.Tie as tie
 

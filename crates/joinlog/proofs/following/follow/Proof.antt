@@ -20,7 +20,7 @@ use Rattle.segmentation.proofs.Settled.{Shortens, joins-none, line-shortens}
 use Rattle.segmentation.proofs.Stepping.{on-line-count, next-within, fewer, on-line-after}
 use Rattle.joinlog.specs.JoinLog.{JoinRecord, joins_made, record_of, numbers_of, record_numbers, log_of, same_numbers}
 use Rattle.joinlog.specs.Records.{starts_with}
-use Rattle.lists.proofs.Connectives.{both_false, was-false, was-true}
+use Rattle.lists.proofs.Connectives.{both_false}
 use Rattle.joinlog.proofs.Made.{made_none, held-made, made_held}
 use Rattle.joinlog.proofs.Logs.{log-ends, log-stops, log-departs, log-goes-on, log-room}
 use Rattle.joinlog.proofs.following.follow.Statement.{statement}

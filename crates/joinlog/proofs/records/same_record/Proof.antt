@@ -7,7 +7,6 @@ use mir.Syntax.{w64}
 use mir.Val.{to_z, of_z}
 use Rattle.verdict.proofs.Machine.{handed-back}
 use Rattle.joinlog.specs.JoinLog.{same_number}
-use Rattle.lists.proofs.Connectives.{was-false, was-true}
 use Rattle.joinlog.proofs.records.same_record.Statement.{statement}
 use Rattle.joinlog.proofs.records.same_record.Tie as tie
 

@@ -5,7 +5,6 @@ use Prim.Native.Nat.{◌-◌, ◌≤◌, ◌<◌, ◌^◌}
 use native.Mathlib.Omega.{arith}
 use native.Mathlib.Nat.{one-le-pow}
 use borrow.Author.Rules.{rules}
-use borrow.Author.Tests.{not-true, not-false}
 use lib.ListN.{length, drop, get_or}
 use Rattle.swatch.specs.Input.{decimal, is_digit}
 use Rattle.swatch.proofs.Fields.{digit-range, digits_more, digits-end, digits-all, digits-few, digits-grow}

@@ -7,7 +7,6 @@ use Rattle.verdict.proofs.Machine.{handed-back}
 use Rattle.verdict.proofs.Scratch.{places-held}
 use Rattle.verdict.proofs.Caps.{whole-attained, best_none, best-stops}
 use borrow.Author.Rules.{rules}
-use borrow.Author.Tests.{not-true}
 use Rattle.verdict.proofs.costs.best_of.Statement.{statement}
 use Rattle.verdict.proofs.costs.best_of.Tie as tie
 

@@ -8,7 +8,6 @@ use mir.Syntax.{w64}
 use mir.Val.{to_z}
 use mir.ValLaws.{to_z-of_z}
 use borrow.Author.Rules.{rules}
-use borrow.Author.Tests.{not-true}
 use Rattle.lists.specs.Lists.{total}
 use Rattle.lists.proofs.Signed.{le-trans-ℤ}
 use Rattle.pooling.specs.Blocks.{direction, blocks}

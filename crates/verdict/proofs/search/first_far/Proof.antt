@@ -6,7 +6,6 @@ use native.Mathlib.Omega.{arith}
 use native.Mathlib.Nat.{le_trans, lt_of_lt_of_le}
 use lib.ListN.{length}
 use borrow.Author.Rules.{rules}
-use borrow.Author.Tests.{not-false}
 use Rattle.lists.specs.Lists.{total, part}
 use Rattle.lists.proofs.Cases.{by_order}
 use Rattle.pooling.specs.Blocks.{direction, blocks}
