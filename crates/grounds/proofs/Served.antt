@@ -1,5 +1,5 @@
 -- What a call's number says: if a call is served, no ground holds; a later ground is tested only if none of the earlier ones holds. Assumes nothing.
-use Prim.Native.Nat.{ℕ, ◌*◌, ◌/◌, ◌≤◌, ◌<◌}
+use Prim.Native.Nat.{ℕ, ◌/◌, ◌≤◌, ◌<◌}
 use mathlib.Core.Path.{◌≡◌, refl, sym, ap, ◌∙◌}
 use mathlib.Core.Bool.{Bool, true, false, cond, not, false≢true}
 use mathlib.Core.List.{List, [], ◌∷◌, ◌++◌}
@@ -9,19 +9,14 @@ use lib.ListN.{length}
 use lib.Signed.{lt_z}
 use native.Mathlib.Omega.{arith}
 use native.Mathlib.Decide.{ℕ_discrete}
-use borrow.Author.Tests.{ltb-false, eq-eqb, eqb-true}
+use borrow.Author.Tests.{ltb-false, eqb-true}
 use Rattle.lists.proofs.Connectives.{both_false, was-true}
 use Rattle.lists.proofs.Signed.{nlt-le-ℤ}
 use Rattle.lists.specs.Lists.{total}
 use Rattle.verdict.specs.Test.{Closeness, least_closeness, most_closeness}
 use Rattle.verdict.specs.Settings.{Offered}
 use Rattle.joinlog.specs.JoinLog.{record_numbers, line_log, same_numbers}
-use Rattle.palette.specs.declared.Shape.{Shape}
-use Rattle.palette.specs.Cards.{most_entries}
-use Rattle.palette.specs.Shapes.{area}
-use Rattle.swatch.specs.Reading.{most_swatch_pixels, bad_size}
-use Rattle.swatch.proofs.Numbers.{size-good, size_fits}
-use Rattle.grounds.specs.Grounds.{Ground, first_ground, wrong_shape, bad_length, large_sum, bad_closeness, few_places, bad_labels, many_entries, other_log, fit_number, verdict_number, modes_number, log_number, replay_number, asked_grounds, asked_number, card_number, sized_asked_number, sized_number, widen_number}
+use Rattle.grounds.specs.Grounds.{Ground, first_ground, bad_length, large_sum, bad_closeness, few_places, bad_labels, other_log, fit_number, verdict_number, modes_number, log_number, replay_number, widen_number}
 
 -- ---- grounds in sequence
 pub ground-holds : (g : Ground) (gs : List Ground) → g.holds ≡ true → first_ground (g ∷ gs) ≡ g.number
@@ -183,36 +178,6 @@ module _ (e : Closeness) (h : List ℕ) (log : List ℤ) (places : ℕ) where
       go (no n) t q = absurd (n (sym (replay-turned-down n) ∙ z))
       go (yes y) true q = (y, refl)
       go (yes y) false q = absurd (omega (arith, replay-other y q, z))
-
--- ---- an image that comes with its shape
-module _ (shape : Shape) (bytes : List ℕ) where
-  -- where ground 2 does not hold, the image has some pixels, not too many, and three bytes for each
-  pub shape-right : (wrong_shape shape bytes).holds ≡ false → (0 < area shape) × (area shape ≤ most_swatch_pixels) × (length bytes ≡ 3 * area shape)
-  shape-right q =
-      let n = both_false (bad_size (area shape)) (not (eqb (length bytes) (3 * area shape))) q in
-      let s = size_fits (area shape) n.0 in
-      (s.0, s.1, eqb-true (length bytes) (3 * area shape) (was-true (eqb (length bytes) (3 * area shape)) n.1))
-
-  pub shape-passes : 0 < area shape → area shape ≤ most_swatch_pixels → length bytes ≡ 3 * area shape → (wrong_shape shape bytes).holds ≡ false
-  shape-passes some few three = rw (size-good (area shape) (λ z. omega arith) few, eq-eqb (length bytes) (3 * area shape) three)
-
-module _ (shape : Shape) (e : Closeness) (bytes : List ℕ) (places : ℕ) where
-  -- with the right shape, the grounds are those of a card call that is told none
-  pub sized-asks : (wrong_shape shape bytes).holds ≡ false → sized_number shape e bytes places ≡ card_number e bytes places
-  unfolding card_number sized_number
-  sized-asks q = ground-passes (wrong_shape shape bytes) (asked_grounds e bytes places ++ (many_entries most_entries e bytes ∷ [])) q
-
-  pub sized-refused : (wrong_shape shape bytes).holds ≡ true → sized_number shape e bytes places ≡ 2
-  unfolding sized_number
-  sized-refused q = ground-holds (wrong_shape shape bytes) (asked_grounds e bytes places ++ (many_entries most_entries e bytes ∷ [])) q
-
-  pub sized-asked-none : sized_asked_number shape e bytes places ≡ 0 → ((wrong_shape shape bytes).holds ≡ false) × (asked_number e bytes places ≡ 0)
-  unfolding asked_number sized_asked_number
-  sized-asked-none z = ground-none (wrong_shape shape bytes) (asked_grounds e bytes places) (omega arith) z
-
-  pub sized-turned-down : ¬ (sized_asked_number shape e bytes places ≡ 0) → sized_number shape e bytes places ≡ sized_asked_number shape e bytes places
-  unfolding sized_asked_number sized_number
-  sized-turned-down n = grounds-turned-down (wrong_shape shape bytes ∷ asked_grounds e bytes places) (many_entries most_entries e bytes ∷ []) n
 
 -- ---- labels that are widened
 -- the two lists are as long

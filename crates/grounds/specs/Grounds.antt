@@ -1,12 +1,10 @@
 -- The grounds for turning a call down, rules G1 to G11 and G20, and which of them concern a call (A2). A call answers with the number of the first that holds, or 0. Assumes nothing.
-use Rattle.std.specs.Prelude.{ℕ, ◌*◌, ◌/◌, ◌%◌, Bool, cond, not, ◌||◌, List, [], ◌∷◌, ◌++◌, ltb, eqb, ℤ, pos, length}
+use Rattle.std.specs.Prelude.{ℕ, ◌/◌, ◌%◌, Bool, cond, not, ◌||◌, List, [], ◌∷◌, ◌++◌, ltb, eqb, ℤ, pos, length}
 use Rattle.std.specs.Int.Signed.{lt_z}
 use Rattle.lists.specs.Lists.{total, missing}
 use Rattle.verdict.specs.Test.{Closeness, least_closeness, most_closeness}
 use Rattle.joinlog.specs.JoinLog.{record_numbers, line_log, same_numbers}
 use Rattle.palette.specs.Cards.{entries, most_entries, pixels_of}
-use Rattle.palette.specs.declared.Shape.{Shape}
-use Rattle.palette.specs.Shapes.{area}
 use Rattle.palette.specs.Sound.{most_pixels}
 use Rattle.swatch.specs.Input.{header_of, size_of, pixel_bytes, bytes_of}
 use Rattle.swatch.specs.Reading.{bad_size}
@@ -27,10 +25,6 @@ no_header text = record { number = 1; holds = missing (header_of text) }
 -- G2: no pixels, or too many
 abbrev pub wrong_size : List ℕ → Ground
 wrong_size text = record { number = 2; holds = bad_size (size_of text) }
-
--- G2 of an image that comes with its shape: or its bytes are not three for each pixel
-abbrev pub wrong_shape : Shape → List ℕ → Ground
-wrong_shape shape bytes = record { number = 2; holds = bad_size (area shape) || not (eqb (length bytes) (3 * area shape)) }
 
 -- G3: the pixel lines cannot be read, or are not as many as they should be
 abbrev pub bad_lines : List ℕ → Ground
@@ -101,13 +95,6 @@ asked_number e bytes places = first_ground (asked_grounds e bytes places)
 
 unfoldable pub card_number : Closeness → List ℕ → ℕ → ℕ
 card_number e bytes places = first_ground (asked_grounds e bytes places ++ (many_entries most_entries e bytes ∷ []))
-
--- the number of a card call that is told the shape of the image: likewise
-unfoldable pub sized_asked_number : Shape → Closeness → List ℕ → ℕ → ℕ
-sized_asked_number shape e bytes places = first_ground (wrong_shape shape bytes ∷ asked_grounds e bytes places)
-
-unfoldable pub sized_number : Shape → Closeness → List ℕ → ℕ → ℕ
-sized_number shape e bytes places = first_ground (wrong_shape shape bytes ∷ (asked_grounds e bytes places ++ (many_entries most_entries e bytes ∷ [])))
 
 -- the number of a widening: a label for each byte
 unfoldable pub widen_number : List ℕ → ℕ → ℕ

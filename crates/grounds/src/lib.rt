@@ -3,21 +3,10 @@
 
 ghost use Rattle.std.specs.Prelude.{◌≡◌, ◌≤◌, length};
 ghost use Rattle.lists.specs.Lists.{total};
-ghost use Rattle.grounds.specs.Grounds.{
-  bad_closeness,
-  wrong_shape,
-  fit_number,
-  verdict_number,
-  modes_number,
-  log_number,
-  asked_number,
-  sized_asked_number,
-  widen_number,
-};
+ghost use Rattle.grounds.specs.Grounds.{bad_closeness, fit_number, verdict_number, modes_number, log_number, asked_number, widen_number};
 
 use joinlog::RECORD_NUMBERS;
-use palette::{MOST_PIXELS, Shape, area_of};
-use swatch::MOST_SWATCH_PIXELS;
+use palette::MOST_PIXELS;
 use verdict::{LEAST_CLOSENESS, MOST_CLOSENESS};
 
 // The sum of the counts. There are at most 256 of them, so it cannot overflow.
@@ -110,28 +99,6 @@ pub fn card_asked(pixels: &[u8], closeness: i32, places: usize) -> u32
         return 9;
     }
     0
-}
-
-// Ground 2 of a card call that is told the shape of the image. Three times the area fits 64 bits once it is known to be small.
-fn wrong_shape(pixels: &[u8], shape: Shape) -> bool
-    ensures { result ≡ (wrong_shape shape pixels.now).holds }
-{
-    let area = area_of(shape);
-    if area == 0 {
-        return true;
-    }
-    if area > MOST_SWATCH_PIXELS as u64 {
-        return true;
-    }
-    pixels.len() as u64 != 3 * area
-}
-
-// The number of a card call that is told the shape of the image, likewise: ground 2 comes before the others.
-pub fn sized_asked(pixels: &[u8], shape: Shape, closeness: i32, places: usize) -> u32
-    ensures { result ≡ sized_asked_number shape closeness pixels.now places }
-{
-    let asked = card_asked(pixels, closeness, places);
-    if wrong_shape(pixels, shape) { 2 } else { asked }
 }
 
 // The number of a widening of one-byte labels into a list of so many places.

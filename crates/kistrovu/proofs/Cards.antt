@@ -1,14 +1,13 @@
 -- What the card call answers and leaves, by its number, and what a widening leaves; making a card twice gives the same card. Assumes nothing.
 use Prim.Native.Nat.{ℕ, ◌*◌, ◌/◌, ◌%◌, ◌≤◌, ◌<◌}
 use mathlib.Core.Path.{◌≡◌, refl, sym, ap, ◌∙◌}
-use mathlib.Core.Bool.{Bool, true, false}
 use mathlib.Core.List.{List, [], ◌∷◌}
 use lib.Dec.{eqb, ltb}
 use lib.ListN.{length, take, get_or, get_or-append}
 use lib.Seq.{take-append_seam}
 use native.Mathlib.Omega.{arith}
 use native.Mathlib.Nat.{div-add-mod}
-use borrow.Author.Tests.{ltb-true, ltb-false, le-ltb, eqb-true, eq-eqb, ne_eqb, lt-leb, le-leb}
+use borrow.Author.Tests.{ltb-false, eqb-true, ne_eqb, lt-ltb, le-ltb, lt-leb, le-leb}
 use Rattle.lists.proofs.Connectives.{both_false, was-true}
 use Rattle.lists.specs.Lists.{padded}
 use Rattle.pixel.specs.declared.Pixel.{Pixel}
@@ -22,10 +21,12 @@ use Rattle.palette.proofs.Triples.{pixels-length, pixels-bytes}
 use Rattle.making.specs.Making.{card_entries, labels_left}
 use Rattle.kistrovu.specs.declared.Card.{Card}
 use Rattle.grounds.specs.Grounds.{first_ground, bad_bytes, many_pixels, bad_closeness, bad_labels, many_entries, asked_grounds, asked_number, card_number, widen_number}
-use Rattle.kistrovu.specs.Answers.{card_of, labels_of, card_answer, label_list, widened_list}
-use Rattle.kistrovu.specs.Facts.{IfServed, SoundAnswer, CardAgain}
-use Rattle.kistrovu.specs.Images.{no_card, card_by}
+use Rattle.kistrovu.specs.Answers.{served_entries, card_answer, label_list, widened_list}
+use Rattle.kistrovu.specs.Facts.{SoundAnswer, CardAgain}
 use Rattle.grounds.proofs.Served.{closeness-offered, ground-none, grounds-served, grounds-turned-down}
+
+abbrev pub made : ℕ → ℕ → List Entry → Card
+made n len es = record { number = n; len = len; entries = es }
 
 -- ---- the grounds that are asked before the entries are found
 pub record Asked (e : Closeness) (bytes : List ℕ) (places : ℕ) : Type 0 where
@@ -58,11 +59,23 @@ module _ (e : Closeness) (bytes : List ℕ) (places : ℕ) where
         close = closeness-offered e c.0;
       }
 
-  pub asked-passes : length bytes ≡ 3 * places → 0 < places → places ≤ most_pixels → (bad_closeness e).holds ≡ false → asked_number e bytes places ≡ 0
-  unfolding asked_number first_ground
-  asked-passes threes some few close =
-      let many : length bytes / 3 ≡ places = omega (arith, threes) in
-      rw (ne_eqb (length bytes) 0 (λ z. absurd (omega (arith, z))), le-ltb 0 (length bytes % 3) (omega (arith, threes)), many, le-ltb most_pixels places few, close, eq-eqb places places refl) refl
+-- ---- the answer and the labels, by the number
+module _ (e : Closeness) (bytes lent : List ℕ) (n : ℕ) (is : n ≡ card_number e bytes (length lent)) where
+  pub card-refused : ¬ (n ≡ 0) → made n 0 (padded most_entries no_entry []) ≡ card_answer e bytes (length lent)
+  unfolding card_answer served_entries
+  card-refused some = rw (sym is, ne_eqb n 0 some) refl
+
+  pub labels-as-lent : ¬ (n ≡ 0) → lent ≡ label_list e bytes lent
+  unfolding label_list
+  labels-as-lent some = rw (sym is, ne_eqb n 0 some) refl
+
+  pub card-served : n ≡ 0 → made 0 (length (entries e (pixels_of bytes))) (padded most_entries no_entry (entries e (pixels_of bytes))) ≡ card_answer e bytes (length lent)
+  unfolding card_answer served_entries
+  card-served z = rw (sym is, z) refl
+
+  pub labels-served : n ≡ 0 → labels e (pixels_of bytes) ≡ label_list e bytes lent
+  unfolding label_list
+  labels-served z = rw (sym is, z) refl
 
 -- ---- the labels as a widening leaves them, by its number
 module _ (narrow lent : List ℕ) (n : ℕ) (is : n ≡ widen_number narrow (length lent)) where
@@ -74,10 +87,40 @@ module _ (narrow lent : List ℕ) (n : ℕ) (is : n ≡ widen_number narrow (len
   unfolding widened_list
   widened-as-lent some = rw (sym is, ne_eqb n 0 some) refl
 
+-- ---- more entries than a card may hold, or not
+module _ (e : Closeness) (bytes : List ℕ) (places total : ℕ) (none : asked_number e bytes places ≡ 0) (is : total ≡ length (entries e (pixels_of bytes))) where
+  pub many-number : most_entries < total → 11 ≡ card_number e bytes places
+  unfolding first_ground
+  many-number l = sym (card-asked e bytes places none ∙ rw (sym is, lt-ltb most_entries total l) refl)
+
+  pub few-number : total ≤ most_entries → 0 ≡ card_number e bytes places
+  unfolding first_ground
+  few-number l = sym (card-asked e bytes places none ∙ rw (sym is, le-ltb most_entries total l) refl)
+
+  pub many-entries : most_entries < total → (card_entries e (pixels_of bytes)).entries ≡ padded most_entries no_entry []
+  unfolding card_entries
+  many-entries l = rw (sym is, lt-leb total most_entries l) refl
+
+  pub few-entries : total ≤ most_entries → (card_entries e (pixels_of bytes)).entries ≡ padded most_entries no_entry (entries e (pixels_of bytes))
+  unfolding card_entries
+  few-entries l = rw (sym is, le-leb total most_entries l) refl
+
+  pub many-left : most_entries < total → (lent : List ℕ) → labels_left e (pixels_of bytes) lent ≡ lent
+  unfolding labels_left
+  many-left l lent = rw (sym is, lt-leb total most_entries l) refl
+
+  pub few-left : total ≤ most_entries → (lent : List ℕ) → labels_left e (pixels_of bytes) lent ≡ labels e (pixels_of bytes)
+  unfolding labels_left
+  few-left l lent = rw (sym is, le-leb total most_entries l) refl
+
 pub card-again : CardAgain
-unfolding label_list labels_of
+unfolding label_list
 card-again e bytes before before' same =
     (ap (card_answer e bytes) same, λ z. let y : card_number e bytes (length before') ≡ 0 = sym (ap (card_number e bytes) same) ∙ z in rw (z, y) refl)
+
+pub total-is : (e : Closeness) (ps : List Pixel) → (card_entries e ps).total ≡ length (entries e ps)
+unfolding card_entries
+total-is e ps = refl
 
 -- D3 of an image that no ground before the entries turns down
 pub card-sound : (e : Closeness) (bytes : List ℕ) (places : ℕ) → ((j : ℕ) → get_or bytes j 0 < 256) → Asked e bytes places → SoundCard e (pixels_of bytes)
@@ -93,64 +136,32 @@ pub take-padded : (n : ℕ) (es : List Entry) → take (length es) (padded n no_
 unfolding padded
 take-padded n es = take-append_seam es _
 
--- ---- what a card call hands back and leaves, by its number
-module _ (e : Closeness) (bytes : List ℕ) where
-  abbrev ps : List Pixel
-  ps = pixels_of bytes
-
-  abbrev es : List Entry
-  es = entries e ps
-
-  -- the number of a call that is left to the entries
-  abbrev pub entries_number : ℕ
-  entries_number = first_ground (many_entries most_entries e bytes ∷ [])
-
-  -- the call's answer r, the labels that it leaves in a buffer that was lent, and D3
-  abbrev pub Answered : (number : ℕ) (lent : List ℕ) (r : Card) (left : List ℕ) → Type 0
-  Answered n lent r left = (r ≡ card_of n e bytes) × (left ≡ labels_of n e bytes lent) × IfServed r.number (SoundAnswer e bytes r left)
-
-  pub card-refused : (n : ℕ) → ¬ (n ≡ 0) → (lent : List ℕ) (r : Card) → r ≡ no_card n → Answered n lent r lent
-  unfolding card_of labels_of no_card
-  card-refused n some lent r q = (q ∙ rw (ne_eqb n 0 some) refl, rw (ne_eqb n 0 some) refl, λ z. absurd (some (sym (ap (λ (c : Card). c.number) q) ∙ z)))
-
-  -- D3 of the card as it is defined, and so of what is handed back
-  as-made : (n : ℕ) → n ≡ 0 → (lent : List ℕ) → SoundCard e ps → SoundAnswer e bytes (card_of n e bytes) (labels_of n e bytes lent)
-  unfolding card_of labels_of
-  as-made n z lent s = rw z (record {
-    greys = s.greys;
-    colours = s.colours;
-    labelled = s.labelled;
-    pixels = λ i l.
-        let p = s.pixels i (omega (arith, s.labelled)) in
-        record {
-          one = record {
-            number = p.one.number;
-            in_range = p.one.in_range;
-            passes = rw (held p.one.number p.one.in_range) p.one.passes;
-            only = λ m k t. p.one.only m k (rw (held m k) at t);
+-- demand D3 of the card handed back, as it is made, and by what the call knows of it
+as-made : (e : Closeness) (bytes : List ℕ) → SoundCard e (pixels_of bytes)
+    → SoundAnswer e bytes (made 0 (length (entries e (pixels_of bytes))) (padded most_entries no_entry (entries e (pixels_of bytes)))) (labels e (pixels_of bytes))
+as-made e bytes s =
+    let es = entries e (pixels_of bytes) in
+    let held = entry-padded most_entries es in
+    record {
+      greys = s.greys;
+      colours = s.colours;
+      labelled = s.labelled;
+      pixels = λ i l.
+          let p = s.pixels i (omega (arith, s.labelled)) in
+          record {
+            one = record {
+              number = p.one.number;
+              in_range = p.one.in_range;
+              passes = rw (held p.one.number p.one.in_range) p.one.passes;
+              only = λ m k t. p.one.only m k (rw (held m k) at t);
+            };
+            label = p.label;
           };
-          label = p.label;
-        };
-    counts = λ n l. rw (held n l) (s.counts n l);
-    none_empty = λ n l. rw (held n l) (s.none_empty n l);
-    every_pixel = rw (take-padded most_entries es) (s.every_pixel ∙ sym s.labelled);
-  })
-    where
-      held : (k : ℕ) → k < length es → entry_at (padded most_entries no_entry es) k ≡ entry_at es k
-      held = entry-padded most_entries es
+      counts = λ n l. rw (held n l) (s.counts n l);
+      none_empty = λ n l. rw (held n l) (s.none_empty n l);
+      every_pixel = rw (take-padded most_entries es) (s.every_pixel ∙ sym s.labelled);
+    }
 
-  -- entries and labels as they are made are those of the number
-  by_entries : (lent : List ℕ) → (card_by (card_entries e ps) ≡ card_of entries_number e bytes) × (labels_left e ps lent ≡ labels_of entries_number e bytes lent)
-  unfolding card_by card_entries labels_left card_of labels_of first_ground
-  by_entries lent = go (ltb most_entries (length es)) refl
-    where
-      go : (t : Bool) → ltb most_entries (length es) ≡ t → (card_by (card_entries e ps) ≡ card_of entries_number e bytes) × (labels_left e ps lent ≡ labels_of entries_number e bytes lent)
-      go true q = let full = lt-leb (length es) most_entries (ltb-true most_entries (length es) q) in (rw (q, full) refl, rw (q, full) refl)
-      go false q = let fit = le-leb (length es) most_entries (ltb-false most_entries (length es) q) in (rw (q, fit) refl, rw (q, fit) refl)
-
-  pub card-answered : (n : ℕ) → n ≡ entries_number → SoundCard e ps → (lent : List ℕ) (r : Card) (left : List ℕ) → r ≡ card_by (card_entries e ps) → left ≡ labels_left e ps lent → Answered n lent r left
-  unfolding card_of
-  card-answered n is sound lent r left q l =
-      let card = q ∙ (by_entries lent).0 ∙ ap (λ (k : ℕ). card_of k e bytes) (sym is) in
-      let labels = l ∙ (by_entries lent).1 ∙ ap (λ (k : ℕ). labels_of k e bytes lent) (sym is) in
-      (card, labels, λ z. rw (card, labels) (as-made n (sym (ap (λ (c : Card). c.number) card) ∙ z) lent sound))
+pub handed-sound : (e : Closeness) (bytes : List ℕ) (len : ℕ) (es : List Entry) (ls : List ℕ) → len ≡ length (entries e (pixels_of bytes))
+    → es ≡ padded most_entries no_entry (entries e (pixels_of bytes)) → ls ≡ labels e (pixels_of bytes) → SoundCard e (pixels_of bytes) → SoundAnswer e bytes (made 0 len es) ls
+handed-sound e bytes len es ls n q l s = rw (n, q, l) (as-made e bytes s)

@@ -3,6 +3,5 @@ mod Modes
 mod Narrow
 pub mod Turns
 pub mod Cards
-pub mod Sized
 pub mod Texts
 pub mod Replays

@@ -24,12 +24,12 @@ use Rattle.swatch.specs.Output.{printed_card, bytes_for, printed_most}
 use Rattle.swatch.proofs.PrintedLengths.{printed-length}
 use Rattle.grounds.specs.Grounds.{Ground, first_ground, many_entries, asked_grounds, asked_number, card_number, widen_number, program_closeness, read_grounds, text_number}
 use Rattle.grounds.proofs.Served.{last_none, last-kept}
-use Rattle.kistrovu.specs.Answers.{served, card_of, labels_of, card_answer, label_list, widened_list, printed, printed_answer}
+use Rattle.kistrovu.specs.Answers.{served, served_entries, card_answer, label_list, widened_list, printed, printed_answer}
 use Rattle.kistrovu.specs.Narrow.{card_number_up_to, card_up_to, labels_up_to, text_number_up_to, printed_up_to, OwnLimit, CardAlwaysKept, TextAlwaysKept, most_byte_entries, LabelsAlwaysNarrow}
 use Rattle.kistrovu.proofs.Cards.{card-turned-down, asked-none}
 
 pub own-limit : OwnLimit
-unfolding card_up_to card_number_up_to card_answer card_of card_number labels_up_to label_list labels_of printed_up_to text_number_up_to printed_answer printed text_number printed_most
+unfolding card_up_to card_number_up_to card_answer served_entries card_number labels_up_to label_list printed_up_to text_number_up_to printed_answer printed text_number printed_most
 own-limit = record { card = λ e bytes places. refl; labels = λ e bytes list. refl; text = λ text. refl }
 
 -- more entries than a limit are more than a lower one
@@ -58,7 +58,7 @@ module _ (e : Closeness) (bytes list : List ℕ) where
       by_cond (λ (xs : List Entry). length xs ≤ most) (eqb (card_number_up_to most e bytes (length list)) 0) found [] (λ q. card-few most (eqb-true _ 0 q)) (λ q. omega arith)
 
 pub cards-kept : CardAlwaysKept
-unfolding card_up_to card_answer card_of labels_up_to label_list labels_of
+unfolding card_up_to card_answer served_entries labels_up_to label_list
 cards-kept few low e bytes list n =
     let same = card-number-kept e bytes list few low n in
     record {
@@ -86,7 +86,7 @@ labels-long e bytes list z = go (ℕ_discrete (asked_number e bytes (length list
 -- widened into a list of as many places, they are what the card call leaves there
 labels-widened : (e : Closeness) (bytes list lent : List ℕ) → card_number e bytes (length list) ≡ 0 → length lent ≡ length list
     → widened_list (labels e (pixels_of bytes)) lent ≡ label_list e bytes lent
-unfolding widened_list widen_number first_ground label_list labels_of
+unfolding widened_list widen_number first_ground label_list
 labels-widened e bytes list lent z same =
     let long : length lent ≡ length (labels e (pixels_of bytes)) = same ∙ sym (labels-long e bytes list z) in
     let number : card_number e bytes (length lent) ≡ 0 = ap (card_number e bytes) same ∙ z in

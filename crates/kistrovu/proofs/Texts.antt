@@ -1,38 +1,35 @@
 -- What the text call answers and prints, from reading the text and from the card of its pixels; long texts, and room for what is printed. Assumes nothing.
-use Prim.Native.Nat.{ℕ, zero, suc, ◌≤◌, ◌<◌}
-use mathlib.Core.Path.{◌≡◌, refl, sym, ap, ap₂, ◌∙◌}
+use Prim.Native.Nat.{ℕ, zero, suc, ◌≤◌}
+use mathlib.Core.Path.{◌≡◌, refl, sym, ap, ◌∙◌}
 use mathlib.Core.Bool.{Bool, true, false, cond}
 use mathlib.Core.List.{List, []}
 use lib.Dec.{eqb, ltb, eqb-suc-zero}
 use lib.IntN.{pos}
-use lib.ListN.{length, take, get_or}
+use lib.ListN.{length, take}
 use native.Mathlib.Omega.{arith}
-use borrow.Author.Tests.{ltb-false, eqb-true, ne_eqb}
-use Rattle.verdict.specs.Test.{least_closeness, most_closeness}
-use Rattle.lists.specs.Lists.{missing, over, padded}
+use borrow.Author.Tests.{ltb-false, eqb-true, ne_eqb, le-leb}
+use Rattle.pixel.specs.declared.Pixel.{Pixel}
+use Rattle.verdict.specs.Test.{Closeness}
+use Rattle.lists.specs.Lists.{missing, over}
 use Rattle.lists.proofs.Cases.{by_cond}
-use Rattle.palette.specs.declared.Entry.{Entry}
-use Rattle.palette.specs.declared.Shape.{Shape}
-use Rattle.palette.specs.Cards.{pixels_of, entries, most_entries, no_entry}
-use Rattle.palette.specs.Sound.{SoundCard}
-use Rattle.columns.specs.Columns.{Image}
+use Rattle.lists.proofs.Connectives.{both_false}
+use Rattle.making.specs.declared.CardEntries.{CardEntries}
+use Rattle.making.specs.Making.{card_entries}
+use Rattle.palette.specs.Cards.{pixels_of, entries, most_entries}
 use Rattle.swatch.specs.Input.{header_of, size_of, pixel_bytes, bytes_of}
 use Rattle.swatch.specs.declared.Reading.{Reading}
-use Rattle.swatch.specs.Reading.{bad_size, swatch_number, reading_of, longest_swatch}
-use Rattle.swatch.proofs.Numbers.{size_fits}
+use Rattle.swatch.specs.Reading.{most_swatch_pixels, bad_size, swatch_number, reading_of, longest_swatch}
 use Rattle.swatch.specs.Output.{printed_card, printed_most}
 use Rattle.swatch.proofs.PrintedLengths.{printed-fits}
 use Rattle.swatch.specs.Written.{written_swatch}
 use Rattle.swatch.proofs.Long.{long-text}
 use Rattle.swatch.proofs.SwatchRead.{swatch-read}
 use Rattle.kistrovu.specs.declared.printing.Outcome.{Outcome}
-use Rattle.kistrovu.specs.declared.Card.{Card}
-use Rattle.grounds.specs.Grounds.{first_ground, asked_number, program_closeness, text_number}
-use Rattle.grounds.proofs.Served.{shape-passes, sized-asks}
-use Rattle.kistrovu.specs.Answers.{card_of, sized_answer, printed, printed_bytes, printed_answer}
+use Rattle.grounds.specs.Grounds.{first_ground, program_closeness, text_number}
+use Rattle.kistrovu.specs.Answers.{printed, printed_bytes, printed_answer}
 use Rattle.kistrovu.specs.Facts.{LongText, PrintedFits, WrittenServed}
 use Rattle.kistrovu.specs.Texts.{PixelsPrinted, TextPrinted}
-use Rattle.kistrovu.proofs.Cards.{asked-none, asked-passes, card-asked, card-sound, take-padded}
+use Rattle.kistrovu.proofs.Cards.{take-padded}
 
 -- ---- the number of a text
 many : List ℕ → Bool
@@ -48,6 +45,16 @@ text-number text = go (missing (header_of text)) (bad_size (size_of text)) (miss
     go false true c d = refl
     go false false true d = refl
     go false false false d = refl
+
+pub swatch-few : (text : List ℕ) → swatch_number text ≡ 0 → size_of text ≤ most_swatch_pixels
+unfolding swatch_number
+swatch-few text z = go (missing (header_of text)) (bad_size (size_of text)) (missing (pixel_bytes text)) refl z
+  where
+    go : (a b c : Bool) → bad_size (size_of text) ≡ b → ◌≡◌ {A = ℕ} (cond a 1 (cond b 2 (cond c 3 0))) 0 → size_of text ≤ most_swatch_pixels
+    go true b c q y = absurd (omega (arith, y))
+    go false true c q y = absurd (omega (arith, y))
+    go false false true q y = absurd (omega (arith, y))
+    go false false false q y = ltb-false most_swatch_pixels (size_of text) (both_false (eqb (size_of text) 0) (ltb most_swatch_pixels (size_of text)) q).1
 
 -- ---- what is printed
 -- nothing, and the buffer stays, where the reading of the text turns it down
@@ -74,48 +81,14 @@ module _ (text before after : List ℕ) (r : Outcome) where
             λ y. p.1,
           )
 
--- ---- the card of a swatch, as the call that is told its shape hands it back
-module _ (shape : Shape) (bytes : List ℕ) (places : ℕ) (image : Image shape bytes places) (good : bad_size places ≡ false) where
-  abbrev found : List Entry
-  found = entries (pos program_closeness) (pixels_of bytes)
-
-  -- no ground before the entries holds
-  none : asked_number (pos program_closeness) bytes places ≡ 0
-  unfolding program_closeness least_closeness most_closeness
-  none = asked-passes (pos 0) bytes places image.threes (size_fits places good).0 image.few refl
-
-  pub swatch-sound : ((j : ℕ) → get_or bytes j 0 < 256) → SoundCard (pos program_closeness) (pixels_of bytes)
-  swatch-sound byte = card-sound (pos program_closeness) bytes places byte (asked-none (pos program_closeness) bytes places none)
-
-  module _ (card : Card) (is : card ≡ sized_answer shape.width shape.height (pos program_closeness) bytes places) where
-    pub card-number : card.number ≡ cond (ltb most_entries (length found)) 11 0
-    unfolding sized_answer card_of first_ground
-    card-number =
-        let fit = size_fits places good in
-        let right = shape-passes shape bytes (omega (arith, fit.0, image.shaped)) (omega (arith, fit.1, image.shaped)) (omega (arith, image.threes, image.shaped)) in
-        ap (λ (c : Card). c.number) is ∙ sized-asks shape (pos program_closeness) bytes places right ∙ card-asked (pos program_closeness) bytes places none
-
-    pub card-many : ¬ (card.number ≡ 0) → ltb most_entries (length found) ≡ true
-    card-many some = go (ltb most_entries (length found)) card-number
-      where
-        go : (t : Bool) → card.number ≡ cond t 11 0 → t ≡ true
-        go true q = refl
-        go false q = absurd (some q)
-
-    pub card-few : card.number ≡ 0 → ltb most_entries (length found) ≡ false
-    card-few z = go (ltb most_entries (length found)) (sym card-number ∙ z)
-      where
-        go : (t : Bool) → ◌≡◌ {A = ℕ} (cond t 11 0) 0 → t ≡ false
-        go true q = absurd (omega (arith, q))
-        go false q = refl
-
-    pub card-entries : card.number ≡ 0 → (card.len ≡ length found) × (take card.len card.entries ≡ found)
-    unfolding sized_answer card_of
-    card-entries z =
-        let n = sym (ap (λ (c : Card). c.number) is) ∙ z in
-        let len : card.len ≡ length found = ap (λ (c : Card). c.len) is ∙ rw n refl in
-        let places : card.entries ≡ padded most_entries no_entry found = ap (λ (c : Card). c.entries) is ∙ rw n refl in
-        (len, ap₂ take len places ∙ take-padded most_entries found)
+-- ---- the entries of a card, out of its places
+pub entries-held : (e : Closeness) (ps : List Pixel) (m : CardEntries) → m ≡ card_entries e ps → m.total ≤ most_entries → take m.total m.entries ≡ entries e ps
+unfolding card_entries
+entries-held e ps m is few =
+    let es = entries e ps in
+    let count : m.total ≡ length es = ap (λ (x : CardEntries). x.total) is in
+    let fit = le-leb (length es) most_entries (omega (arith, count)) in
+    ap (λ (x : CardEntries). take x.total x.entries) is ∙ rw fit (take-padded most_entries es)
 
 -- ---- room for what is printed
 text-few : (text : List ℕ) → text_number text ≡ 0 → many text ≡ false

@@ -9,10 +9,11 @@ use Rattle.verdict.specs.Test.{Closeness, verdict_of}
 use Rattle.segmentation.specs.Joining.{line_separators}
 use Rattle.joinlog.specs.JoinLog.{made_on_line, line_log}
 use Rattle.listing.specs.Listing.{ring_separators}
+use Rattle.palette.specs.declared.Entry.{Entry}
 use Rattle.palette.specs.Cards.{pixels_of, entries, labels, most_entries, no_entry}
 use Rattle.swatch.specs.Input.{bytes_of}
 use Rattle.swatch.specs.Output.{printed_line, printed_card, printed_most}
-use Rattle.grounds.specs.Grounds.{fit_number, verdict_number, modes_number, log_number, replay_number, card_number, sized_number, widen_number, program_closeness, text_number}
+use Rattle.grounds.specs.Grounds.{fit_number, verdict_number, modes_number, log_number, replay_number, card_number, widen_number, program_closeness, text_number}
 use Rattle.kistrovu.specs.declared.MeasuresAnswer.{MeasuresAnswer}
 use Rattle.kistrovu.specs.declared.FitAnswer.{FitAnswer}
 use Rattle.kistrovu.specs.declared.VerdictAnswer.{VerdictAnswer}
@@ -27,7 +28,7 @@ served n a b = cond (eqb n 0) a b
 
 -- A1: the version in the file VERSION, major · 10,000 + minor · 100 + patch. tools/version writes it here
 abbrev pub library_version : ℕ
-library_version = 60100
+library_version = 60000
 
 unfoldable pub measures_answer : ℕ → ℕ → ℕ → MeasuresAnswer
 measures_answer r g b = record { number = 0; measures = measures_of (record { red = r; green = g; blue = b }) }
@@ -88,27 +89,20 @@ replay_answer e h log places = modes_answer (line_separators e h) (replay_number
 unfoldable pub replay_list : Closeness → List ℕ → (log : List ℤ) → List ℕ → List ℕ
 replay_list e h log list = modes_list (line_separators e h) (replay_number e h log (length list)) list
 
--- C4, A4: a card, by the number of its call, and the label buffer as the call leaves it
-unfoldable pub card_of : (number : ℕ) → Closeness → List ℕ → Card
-card_of number e bytes =
-    let es = served number (entries e (pixels_of bytes)) [] in
-    record { number = number; len = length es; entries = padded most_entries no_entry es }
-
-unfoldable pub labels_of : (number : ℕ) → Closeness → List ℕ → List ℕ → List ℕ
-labels_of number e bytes list = served number (labels e (pixels_of bytes)) list
+-- the entries of a served card
+unfoldable pub served_entries : Closeness → List ℕ → ℕ → List Entry
+served_entries e bytes places = served (card_number e bytes places) (entries e (pixels_of bytes)) []
 
 unfoldable pub card_answer : Closeness → List ℕ → ℕ → Card
-card_answer e bytes places = card_of (card_number e bytes places) e bytes
+card_answer e bytes places = record {
+  number = card_number e bytes places;
+  len = length (served_entries e bytes places);
+  entries = padded most_entries no_entry (served_entries e bytes places);
+}
 
+-- A4: the label buffer as a card call leaves it
 unfoldable pub label_list : Closeness → List ℕ → List ℕ → List ℕ
-label_list e bytes list = labels_of (card_number e bytes (length list)) e bytes list
-
--- C11, C12: likewise of a call that is told the width and height of the image
-unfoldable pub sized_answer : (width height : ℕ) → Closeness → List ℕ → ℕ → Card
-sized_answer width height e bytes places = card_of (sized_number (record { width = width; height = height }) e bytes places) e bytes
-
-unfoldable pub sized_list : (width height : ℕ) → Closeness → List ℕ → List ℕ → List ℕ
-sized_list width height e bytes list = labels_of (sized_number (record { width = width; height = height }) e bytes (length list)) e bytes list
+label_list e bytes list = served (card_number e bytes (length list)) (labels e (pixels_of bytes)) list
 
 -- C9, A4: the label buffer as a widening leaves it: each one-byte label in its place. The number is all that is handed back
 unfoldable pub widened_list : (narrow : List ℕ) → List ℕ → List ℕ

@@ -1,5 +1,5 @@
--- What holds besides the equations: for a served call (D2 and D3), for a log and its replay, for a card made twice, or with its width and height told, for a turned ring, and for the program's text. Assumes nothing.
-use Rattle.std.specs.Prelude.{ℕ, suc, ◌*◌, ◌≤◌, ◌<◌, ◌≡◌, false, cond, List, map, ltb, eqb, ℤ, pos, length, take, get_or}
+-- What holds besides the equations: for a served call (D2 and D3), for a log and its replay, for a card made twice, for a turned ring, and for the program's text. Assumes nothing.
+use Rattle.std.specs.Prelude.{ℕ, suc, ◌*◌, ◌≤◌, ◌<◌, ◌≡◌, cond, List, map, ltb, eqb, ℤ, pos, length, take, get_or}
 use Rattle.lists.specs.Lists.{total, count_if, contains, ExactlyOne}
 use Rattle.verdict.specs.Test.{Closeness}
 use Rattle.pixel.specs.declared.Pixel.{Pixel}
@@ -13,8 +13,8 @@ use Rattle.swatch.specs.Reading.{longest_swatch}
 use Rattle.swatch.specs.Output.{printed_card, printed_most}
 use Rattle.swatch.specs.Written.{written_swatch, MakesSwatch}
 use Rattle.kistrovu.specs.declared.Card.{Card}
-use Rattle.grounds.specs.Grounds.{modes_number, log_number, replay_number, wrong_shape, card_number, program_closeness, text_number}
-use Rattle.kistrovu.specs.Answers.{line_answer, line_list, ring_answer, ring_list, log_answer, log_list, replay_answer, replay_list, card_answer, label_list, sized_answer, sized_list, printed, printed_answer}
+use Rattle.grounds.specs.Grounds.{modes_number, log_number, replay_number, card_number, program_closeness, text_number}
+use Rattle.kistrovu.specs.Answers.{line_answer, line_list, ring_answer, ring_list, log_answer, log_list, replay_answer, replay_list, card_answer, label_list, printed, printed_answer}
 
 -- D2 and D3: P holds if the call is served, that is, if its number n is 0
 abbrev pub IfServed : ℕ → Type 0 → Type 0
@@ -61,11 +61,6 @@ abbrev pub CardAgain : Type 0
 CardAgain = (e : Closeness) (bytes before before' : List ℕ) → length before ≡ length before'
     → (card_answer e bytes (length before) ≡ card_answer e bytes (length before'))
     × IfServed (card_number e bytes (length before)) (label_list e bytes before ≡ label_list e bytes before')
-
--- C12: where width and height are those of the image, the call that is told them answers and leaves what the call that is not told them does. Proved in proofs/Sized
-abbrev pub SizedSame : Type 0
-SizedSame = (width height : ℕ) (e : Closeness) (bytes list : List ℕ) → (wrong_shape (record { width = width; height = height }) bytes).holds ≡ false
-    → (sized_answer width height e bytes (length list) ≡ card_answer e bytes (length list)) × (sized_list width height e bytes list ≡ label_list e bytes list)
 
 -- the separators that a ring call lists: as many of the first places of the list as its answer says
 abbrev pub listed_separators : Closeness → List ℕ → List ℕ → List ℕ

@@ -1,6 +1,5 @@
 // The public calls, and nothing else. Each contract says what the call promises for every input, served or turned down (demands D1 to
-// D3 of docs/METHOD.md). No call has a precondition. `s.old` is the list as it was lent, `s.new` as the call leaves it. The crate
-// kistrovu_c hands each call to C under the same name and with the same clauses.
+// D3 of docs/METHOD.md). No call has a precondition. `now s.entry` is the list as it was lent, `now s.exit` as the call leaves it.
 #![tactic(auto)]
 
 ghost use Rattle.std.specs.Prelude.{◌≡◌, pos, length};
@@ -29,24 +28,21 @@ ghost use Rattle.kistrovu.specs.Answers.{
   replay_list,
   card_answer,
   label_list,
-  sized_answer,
-  sized_list,
   widened_list,
   printed_answer,
   ground_answer,
 };
 ghost use Rattle.kistrovu.specs.Facts.{IfServed, AcceptsOnly, SoundAnswer};
 
-use palette::{Entry, MOST_ENTRIES, Shape};
+use palette::{Entry, MOST_ENTRIES};
 use pixel::{Measures, Pixel};
 use swatch::PRINTED_MOST;
 use verdict::Verdict;
 
-mod images;
 mod printing;
 
 // 10,000 · major + 100 · minor + patch. Its source is the file VERSION; tools/version writes it here.
-const VERSION: u32 = 60100;
+const VERSION: u32 = 60000;
 
 // The answers of the public calls. Each has the call's number: 0 if the call is served, otherwise the ground on which it is turned
 // down. Every other figure is then zero.
@@ -108,14 +104,16 @@ pub struct Printed {
 }
 
 // The version of the library. No ground concerns it.
-pub fn kistrovu_version() -> u32
+#[unsafe(no_mangle)]
+pub extern "C" fn kistrovu_version() -> u32
     ensures { result ≡ library_version }
 {
     VERSION
 }
 
 // The measures of one pixel. No ground concerns it.
-pub fn kistrovu_measures(red: u8, green: u8, blue: u8) -> MeasuresAnswer
+#[unsafe(no_mangle)]
+pub extern "C" fn kistrovu_measures(red: u8, green: u8, blue: u8) -> MeasuresAnswer
     ensures { result ≡ measures_answer red green blue }
 {
     MeasuresAnswer {
@@ -125,7 +123,8 @@ pub fn kistrovu_measures(red: u8, green: u8, blue: u8) -> MeasuresAnswer
 }
 
 // The fit of a whole histogram. Grounds 6, 7.
-pub fn kistrovu_fit(histogram: &[u32], rising: bool) -> FitAnswer
+#[unsafe(no_mangle)]
+pub extern "C" fn kistrovu_fit(histogram: &[u32], rising: bool) -> FitAnswer
     ensures { (result ≡ fit_answer rising histogram.now)
         × IfServed result.number (Pooled (direction rising) histogram.now) }
 {
@@ -144,7 +143,8 @@ pub fn kistrovu_fit(histogram: &[u32], rising: bool) -> FitAnswer
 }
 
 // The verdict of a whole histogram. Grounds 6, 7, 8.
-pub fn kistrovu_verdict(histogram: &[u32], rising: bool, closeness: i32) -> VerdictAnswer
+#[unsafe(no_mangle)]
+pub extern "C" fn kistrovu_verdict(histogram: &[u32], rising: bool, closeness: i32) -> VerdictAnswer
     ensures { (result ≡ verdict_answer closeness rising histogram.now)
         × IfServed result.number (VerdictSound closeness (direction rising) histogram.now) }
 {
@@ -166,7 +166,12 @@ pub fn kistrovu_verdict(histogram: &[u32], rising: bool, closeness: i32) -> Verd
 }
 
 // The modes of a line: its separators, rising, in the first places of the list. Grounds 6, 7, 8, 10.
-pub fn kistrovu_line_modes(histogram: &[u32], closeness: i32, separators: &mut [u32]) -> ModesAnswer
+#[unsafe(no_mangle)]
+pub extern "C" fn kistrovu_line_modes(
+    histogram: &[u32],
+    closeness: i32,
+    separators: &mut [u32],
+) -> ModesAnswer
     ensures { (result ≡ line_answer closeness histogram.now (length separators.old))
         × (separators.new ≡ line_list closeness histogram.now separators.old)
         × IfServed result.number (LineFinished closeness histogram.now) }
@@ -189,7 +194,12 @@ pub fn kistrovu_line_modes(histogram: &[u32], closeness: i32, separators: &mut [
 }
 
 // The modes of a ring, joined all round it: its separators, from the lowest bin number up, in the first places of the list. Grounds 6, 7, 8, 10.
-pub fn kistrovu_ring_modes(histogram: &[u32], closeness: i32, separators: &mut [u32]) -> ModesAnswer
+#[unsafe(no_mangle)]
+pub extern "C" fn kistrovu_ring_modes(
+    histogram: &[u32],
+    closeness: i32,
+    separators: &mut [u32],
+) -> ModesAnswer
     ensures { (result ≡ ring_answer closeness histogram.now (length separators.old))
         × (separators.new ≡ ring_list closeness histogram.now separators.old)
         × IfServed result.number (RingFinished closeness histogram.now × RingOrdered closeness histogram.now) }
@@ -208,7 +218,8 @@ pub fn kistrovu_ring_modes(histogram: &[u32], closeness: i32, separators: &mut [
 }
 
 // The joins of a line in turn: the record of each, four numbers, in the first places of the log. Grounds 6, 7, 8, 10.
-pub fn kistrovu_join_log(histogram: &[u32], closeness: i32, log: &mut [i64]) -> LogAnswer
+#[unsafe(no_mangle)]
+pub extern "C" fn kistrovu_join_log(histogram: &[u32], closeness: i32, log: &mut [i64]) -> LogAnswer
     ensures { (result ≡ log_answer closeness histogram.now (length log.old))
         × (log.new ≡ log_list closeness histogram.now log.old)
         × IfServed result.number (LogSound closeness histogram.now) }
@@ -224,7 +235,8 @@ pub fn kistrovu_join_log(histogram: &[u32], closeness: i32, log: &mut [i64]) -> 
 }
 
 // The modes of a line, by a log of its joins that may come from anywhere: its separators, rising, in the first places of the list. Grounds 6, 7, 8, 10, 20.
-pub fn kistrovu_replay(
+#[unsafe(no_mangle)]
+pub extern "C" fn kistrovu_replay(
     histogram: &[u32],
     closeness: i32,
     log: &[i64],
@@ -256,40 +268,39 @@ pub fn kistrovu_replay(
 }
 
 // The card of an image of three bytes a pixel, and the label of each pixel: its entry's number. Grounds 4, 5, 8, 9, 11.
-pub fn kistrovu_card(pixels: &[u8], closeness: i32, labels: &mut [u16]) -> Card
+#[unsafe(no_mangle)]
+pub extern "C" fn kistrovu_card(pixels: &[u8], closeness: i32, labels: &mut [u16]) -> Card
     ensures { (result ≡ card_answer closeness pixels.now (length labels.old))
         × (labels.new ≡ label_list closeness pixels.now labels.old)
         × IfServed result.number (SoundAnswer closeness pixels.now result labels.new) }
 {
     let number = grounds::card_asked(pixels, closeness, labels.len());
     if number != 0 {
-        return images::turned_down(number);
+        return Card {
+            number,
+            len: 0,
+            entries: palette::no_entries(),
+        };
     }
-    images::answered(images::unsized_card(pixels, verdict::setting_of(closeness), labels))
-}
-
-// The same of an image whose width and height are told: the card is the same. Grounds 2, 4, 5, 8, 9, 11.
-pub fn kistrovu_card_sized(
-    pixels: &[u8],
-    width: u32,
-    height: u32,
-    closeness: i32,
-    labels: &mut [u16],
-) -> Card
-    ensures { (result ≡ sized_answer width height closeness pixels.now (length labels.old))
-        × (labels.new ≡ sized_list width height closeness pixels.now labels.old)
-        × IfServed result.number (SoundAnswer closeness pixels.now result labels.new) }
-{
-    let shape = Shape { width, height };
-    let number = grounds::sized_asked(pixels, shape, closeness, labels.len());
-    if number != 0 {
-        return images::turned_down(number);
+    let made = making::make_card(pixels, verdict::setting_of(closeness), labels);
+    let entries = made.entries;
+    if MOST_ENTRIES < made.total as usize {
+        return Card {
+            number: 11,
+            len: 0,
+            entries,
+        };
     }
-    images::answered(images::sized_card(pixels, shape, verdict::setting_of(closeness), labels))
+    Card {
+        number: 0,
+        len: made.total,
+        entries,
+    }
 }
 
 // Labels of one byte, widened: each number unchanged. The answer is the number of the call. Ground 9.
-pub fn kistrovu_widen_labels(narrow: &[u8], labels: &mut [u16]) -> u32
+#[unsafe(no_mangle)]
+pub extern "C" fn kistrovu_widen_labels(narrow: &[u8], labels: &mut [u16]) -> u32
     ensures { (result ≡ widen_number narrow.now (length labels.old))
         × (labels.new ≡ widened_list narrow.now labels.old) }
 {
@@ -301,7 +312,8 @@ pub fn kistrovu_widen_labels(narrow: &[u8], labels: &mut [u16]) -> u32
 }
 
 // The text of the card of a swatch that is given as text. Grounds 1, 2, 3, 11.
-pub fn kistrovu_print_card(text: &[u8]) -> Printed
+#[unsafe(no_mangle)]
+pub extern "C" fn kistrovu_print_card(text: &[u8]) -> Printed
     ensures { (result ≡ printed_answer text.now)
         × IfServed result.number (SoundCard (pos program_closeness) (pixels_of (bytes_of text.now))) }
 {
@@ -316,7 +328,8 @@ pub fn kistrovu_print_card(text: &[u8]) -> Printed
 
 // The line that the card program prints for a swatch that is turned down: the number of the ground. The call takes any number, and
 // prints the last six digits of one that has more. No ground concerns it.
-pub fn kistrovu_print_ground(number: u32) -> Printed
+#[unsafe(no_mangle)]
+pub extern "C" fn kistrovu_print_ground(number: u32) -> Printed
     ensures { result ≡ ground_answer number }
 {
     let mut bytes = [0u8; PRINTED_MOST];

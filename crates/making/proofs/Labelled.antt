@@ -11,7 +11,7 @@ use lib.Seq.{ext_get_or, take-suc, get_or-set_same, get_or-set_other}
 use borrow.Author.Tests.{eqb-true, eqb-false}
 use Rattle.lists.specs.Lists.{total, numbers, count_if, filter, first_index}
 use Rattle.lists.proofs.Each.{Each, each_at, each_all}
-use Rattle.lists.proofs.Counting.{count-filter, count_same, number-counted, eqb-turned}
+use Rattle.lists.proofs.Counting.{count-filter, count_same, number-counted}
 use Rattle.lists.proofs.Firsts.{first_below, passes_at_first}
 use Rattle.lists.proofs.Places.{map_at}
 use Rattle.pixel.specs.declared.Pixel.{Pixel}
@@ -22,8 +22,9 @@ use Rattle.palette.specs.Sound.{pixel_at}
 use Rattle.palette.proofs.OneBranch.{one-branch}
 use Rattle.palette.proofs.OneEntry.{branch_at}
 use Rattle.dividing.specs.Splitting.{numbers_of}
-use Rattle.making.specs.Making.{range_of, labelled, labels_by, RangesLaid}
-use Rattle.making.proofs.Laid.{lengths, next_start, part-is, BranchesLaid, range_at}
+use Rattle.making.specs.declared.CardEntries.{CardEntries}
+use Rattle.making.specs.Making.{range_of, labelled, labels_by, RangesLaid, held_of, fits, card_entries, labels_left, PixelsLaid}
+use Rattle.making.proofs.Laid.{lengths, next_start, part-is, BranchesLaid, ranges-laid, range_at, held_branches, held-laid, held_first}
 
 -- ---- one entry's label
 labelled-length : (k : ℕ) (xs lent : List ℕ) → length (labelled k xs lent) ≡ length lent
@@ -122,35 +123,19 @@ given-more xs sizes lent pixels r k at now g more next q = record {
 }
 
 -- ---- the labels of all entries
-module _ (e : Closeness) (ps : List Pixel) (bytes : Each Bytes ps) where
-  one : (i : ℕ) → i < length ps → count_if (λ (c : Branch). c.has (pixel_at ps i)) (branches e ps) ≡ 1
-  one i l = each_at (λ p. count_if (λ (c : Branch). c.has p) (branches e ps) ≡ 1) ps (record { red = 0; green = 0; blue = 0 }) (one-branch e ps bytes) i l
-
-  -- each label is the number of a branch
-  pub labels-below : (i : ℕ) → i < length ps → get_or (labels e ps) i 0 < length (branches e ps)
-  unfolding labels label
-  labels-below i inside =
-      rw (map_at (label e ps) ps i (record { red = 0; green = 0; blue = 0 }) 0 inside)
-      (let only = one i inside in first_below (λ (b : Branch). b.has (pixel_at ps i)) (branches e ps) (omega arith))
-
-  -- the pixels that bear label k are those of branch k
-  pub bears-own : (k : ℕ) → k < length (branches e ps) → (i : ℕ) → i < length ps → eqb (get_or (labels e ps) i 0) k ≡ (branch_at e ps k).has (pixel_at ps i)
-  unfolding labels label
-  bears-own k l i inside =
-      ap (λ (m : ℕ). eqb m k) (map_at (label e ps) ps i (record { red = 0; green = 0; blue = 0 }) 0 inside)
-      ∙ eqb-turned (label e ps (pixel_at ps i)) k
-      ∙ sym (passes_at_first (λ (b : Branch). b.has (pixel_at ps i)) (branches e ps) all_greys (one i inside) k l)
-
 module _ (e : Closeness) (ps : List Pixel) (bytes : Each Bytes ps) (xs : List ℕ) (d : BranchesLaid ps (branches e ps) xs) (lent : List ℕ) (same : length lent ≡ length ps) where
   abbrev sizes : List ℕ
   sizes = lengths (numbers_of ps) (branches e ps)
+
+  one : (i : ℕ) → i < length ps → count_if (λ (c : Branch). c.has (pixel_at ps i)) (branches e ps) ≡ 1
+  one i l = each_at (λ p. count_if (λ (c : Branch). c.has p) (branches e ps) ≡ 1) ps (record { red = 0; green = 0; blue = 0 }) (one-branch e ps bytes) i l
 
   label_at : (k i : ℕ) → i < length ps → k ≤ length (branches e ps) → label e ps (pixel_at ps i) < k → get_or (labels_by sizes xs k lent) i 0 ≡ label e ps (pixel_at ps i)
   unfolding labels_by label
   label_at zero i l m h = absurd (omega arith)
   label_at (suc k) i l m h =
       let has : Branch → Bool = λ b. b.has (pixel_at ps i) in
-      let here = passes_at_first has (branches e ps) all_greys (one e ps bytes i l) k (omega arith) in
+      let here = passes_at_first has (branches e ps) all_greys (one i l) k (omega arith) in
       ap (λ (z : List ℕ). get_or (labelled k z (labels_by sizes xs k lent)) i 0) (range_at ps (branches e ps) xs d k (omega arith))
       ∙ branch-labelled ps (branch_at e ps k) k (labels_by sizes xs k lent) i (labels-by-length sizes xs k lent ∙ same) l
       ∙ go (eqb k j) refl here (λ o. label_at k i l (omega arith) o)
@@ -163,11 +148,29 @@ module _ (e : Closeness) (ps : List Pixel) (bytes : Each Bytes ps) (xs : List �
       go true q p rest = rw (p ∙ q) (eqb-true k j q)
       go false q p rest = rw (p ∙ q) (rest (let apart = eqb-false k j q in omega arith))
 
-  pub labels-are : labels_by sizes xs (length (branches e ps)) lent ≡ labels e ps
+  labels-are : labels_by sizes xs (length (branches e ps)) lent ≡ labels e ps
   unfolding labels label
   labels-are =
       ext_get_or 0 (labels_by sizes xs (length (branches e ps)) lent) (labels e ps) (labels-by-length sizes xs (length (branches e ps)) lent ∙ same ∙ sym (length-map ps (label e ps))) (λ i u.
       let l : i < length ps = omega (arith, labels-by-length sizes xs (length (branches e ps)) lent) in
-      let only = one e ps bytes i l in
+      let only = one i l in
       label_at (length (branches e ps)) i l (omega arith) (omega (arith, first_below (λ (c : Branch). c.has (pixel_at ps i)) (branches e ps) (omega arith)))
       ∙ sym (map_at (label e ps) ps i (record { red = 0; green = 0; blue = 0 }) 0 l))
+
+-- ---- the labels of the entries that a card holds: what writing them needs, and that they are left as they should be
+module _ (e : Closeness) (ps : List Pixel) (xs sizes : List ℕ) (d : PixelsLaid e ps xs sizes) (r : CardEntries) (q : r ≡ card_entries e ps) where
+  sized : take (held_of r.total) sizes ≡ lengths (numbers_of ps) (held_branches e ps)
+  unfolding card_entries
+  sized = held_first e ps (λ b. length (numbers_of ps b)) sizes d.counted r.total (ap (λ (s : CardEntries). s.total) q)
+
+  pub labels-laid : RangesLaid xs (take (held_of r.total) sizes) (length ps)
+  labels-laid = rw sized (ranges-laid ps (held_branches e ps) xs (held-laid e ps xs sizes d))
+
+  pub labels-left : Each Bytes ps → (lent : List ℕ) → length lent ≡ length ps
+      → labels_by (take (held_of r.total) sizes) xs (length (take (held_of r.total) sizes)) lent ≡ labels_left e ps lent
+  unfolding labels_by labels_left
+  labels-left bytes lent same = rw sized (go (fits e ps) (held-laid e ps xs sizes d))
+    where
+      go : (t : Bool) → (let bs = cond t (branches e ps) [] in BranchesLaid ps bs xs → labels_by (lengths (numbers_of ps) bs) xs (length (lengths (numbers_of ps) bs)) lent ≡ cond t (labels e ps) lent)
+      go true d = rw (length-map (branches e ps) (λ b. length (numbers_of ps b))) (labels-are e ps bytes xs d lent same)
+      go false d = refl

@@ -1,21 +1,27 @@
 -- The ranges of the entries, one after the other among the numbers. Assumes nothing.
 use Prim.Native.Nat.{ℕ, zero, suc, ◌+◌, ◌-◌, ◌≤◌, ◌<◌}
 use mathlib.Core.Path.{◌≡◌, refl, sym, ap, ap₂, ◌∙◌}
+use mathlib.Core.Bool.{Bool, true, false, cond}
 use mathlib.Core.List.{List, [], ◌∷◌, ◌++◌, map, flat_map, append_assoc}
 use native.Mathlib.Omega.{arith}
-use lib.ListN.{length, take, drop, get_or, length-map, length-append, length-drop, get_or-append}
+use lib.Dec.{leb}
+use lib.ListN.{length, take, drop, get_or, length-map, length-append, length-take, length-drop, take-append-drop, get_or-append}
 use lib.Seq.{length-take-le, take-length, take-append_seam, drop-append-add, get_or-take, get_or-drop}
+use borrow.Author.Tests.{leb-true}
 use Rattle.lists.specs.Lists.{total, numbers}
+use Rattle.lists.proofs.Cases.{by_cond}
 use Rattle.lists.proofs.Each.{Each, each_at, each_all, each-flat-map, each_number, each-filter}
 use Rattle.lists.proofs.Parts.{total-take-mono}
 use Rattle.lists.proofs.Places.{map_at}
 use Rattle.lists.proofs.Sums.{total-more}
 use Rattle.pixel.specs.declared.Pixel.{Pixel}
-use Rattle.palette.specs.Cards.{Branch, all_greys, most_entries}
+use Rattle.verdict.specs.Test.{Closeness}
+use Rattle.palette.specs.Cards.{Branch, all_greys, branches, entries, most_entries}
 use Rattle.palette.specs.Sound.{pixel_at}
+use Rattle.palette.proofs.OneEntry.{entries-length}
 use Rattle.dividing.specs.Sorted.{AllBelow}
 use Rattle.dividing.specs.Splitting.{numbers_of}
-use Rattle.making.specs.Making.{range_of, RangesLaid}
+use Rattle.making.specs.Making.{range_of, RangesLaid, held_of, fits, PixelsLaid}
 
 -- ---- lists laid end to end
 module _ {A : Type 0} (f : A → List ℕ) where
@@ -88,3 +94,37 @@ module _ (ps : List Pixel) (bs : List Branch) (xs : List ℕ) (d : BranchesLaid 
   range_at k l =
       ap₂ (λ (z : ℕ) (ys : List ℕ). take z (drop (total (take k (lengths (numbers_of ps) bs))) ys)) (map_at (λ b. length (numbers_of ps b)) bs k all_greys 0 l) d.order
       ∙ flat-part (numbers_of ps) bs d.rest k all_greys l
+
+-- ---- the branches whose entries a card holds: none where there are too many
+module _ (e : Closeness) (ps : List Pixel) where
+  abbrev pub held_branches : List Branch
+  held_branches = cond (fits e ps) (branches e ps) []
+
+  all_held : fits e ps ≡ true → length (branches e ps) ≤ most_entries
+  all_held t = omega (arith, leb-true (length (entries e ps)) most_entries t, entries-length e ps)
+
+  pub held-laid : (xs sizes : List ℕ) → PixelsLaid e ps xs sizes → BranchesLaid ps held_branches xs
+  unfolding flat_map
+  held-laid xs sizes d =
+      by_cond (λ (bs : List Branch). BranchesLaid ps bs xs) (fits e ps) (branches e ps) []
+      (λ t. record {
+        few = all_held t;
+        within = omega (arith, ap length d.numbered, length-take (length ps) xs);
+        rest = drop (length ps) xs;
+        order = sym (take-append-drop (length ps) xs) ∙ ap (λ (z : List ℕ). z ++ drop (length ps) xs) d.numbered;
+      })
+      (λ t. record { few = omega arith; within = omega arith; rest = xs; order = refl })
+
+  -- a figure of each branch stands in the first places
+  pub held_first : (f : Branch → ℕ) (zs : List ℕ) → (length (branches e ps) ≤ most_entries → take (length (branches e ps)) zs ≡ map f (branches e ps)) → (n : ℕ) → n ≡ length (entries e ps)
+      → take (held_of n) zs ≡ map f held_branches
+  unfolding held_of
+  held_first f zs first n q = rw q (go (fits e ps) refl)
+    where
+      go : (t : Bool) → fits e ps ≡ t → take (cond t (length (entries e ps)) 0) zs ≡ map f (cond t (branches e ps) [])
+      go true t = rw (entries-length e ps) (first (all_held t))
+      go false t = refl
+
+pub held-few : (n : ℕ) → held_of n ≤ most_entries
+unfolding held_of
+held-few n = by_cond (λ (k : ℕ). k ≤ most_entries) (leb n most_entries) n 0 (λ t. leb-true n most_entries t) (λ t. omega arith)

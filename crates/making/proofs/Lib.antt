@@ -1,4 +1,5 @@
 mod Digits
+mod Gathered
 mod Laid
 mod Made
 mod Labelled

@@ -1,16 +1,41 @@
-// The labels of a card's pixels, from the numbers of the pixels, entry by entry; and its entries, from the sums of the pixels.
-ghost use Rattle.std.specs.Prelude.{◌≡◌, ◌≤◌, ◌<◌, ◌*◌, ◌+◌, length};
+// The entries of a card and the labels of its pixels, from the numbers of the pixels, entry by entry.
+ghost use Rattle.std.specs.Prelude.{◌≡◌, ◌≤◌, ◌<◌, ◌*◌, ◌+◌, ◌/◌, length};
 ghost use Rattle.lists.specs.Lists.{padded};
-ghost use Rattle.palette.specs.Cards.{mean_by, most_entries, no_entry};
+ghost use Rattle.palette.specs.Cards.{mean_by, pixels_of, most_entries, no_entry};
 ghost use Rattle.palette.specs.Sound.{most_pixels};
 ghost use Rattle.dividing.specs.Sorted.{code_count, AllBelow};
-ghost use Rattle.columns.specs.Columns.{largest_byte, SumsFew, sums_at};
-ghost use Rattle.making.specs.Making.{labelled, entry_by, entries_by, labels_by, RangesLaid, FiguresLaid};
+ghost use Rattle.making.specs.Making.{sums_of, largest_byte, SumsFew, labelled, entry_by, entries_by, labels_by, RangesLaid, FiguresLaid};
 
-use columns::{Sums, sums_at};
-use dividing::MODE_BASE;
+use crate::Sums;
+use dividing::{MODE_BASE, pixel_at};
 use labels::label_of;
 use palette::{Entry, MOST_ENTRIES, no_entry};
+
+fn plus(sum: u32, level: u8) -> u32
+    requires { sum ≤ largest_byte * most_pixels }
+    ensures { result ≡ sum + level }
+{
+    sum + level as u32
+}
+
+// Adds up the pixels of one entry.
+fn gather(pixels: &[u8], numbers: &[u16]) -> Sums
+    requires { (length numbers.now ≤ most_pixels) × AllBelow numbers.now (length pixels.now / 3) }
+    ensures { result ≡ sums_of (pixels_of pixels.now) numbers.now }
+{
+    let mut red = 0;
+    let mut green = 0;
+    let mut blue = 0;
+    let mut i = 0;
+    while i < numbers.len() {
+        let p = pixel_at(pixels, numbers[i] as usize);
+        red = plus(red, p.red);
+        green = plus(green, p.green);
+        blue = plus(blue, p.blue);
+        i += 1;
+    }
+    Sums { red, green, blue }
+}
 
 // A mean, halves up.
 fn mean(total: u32, count: u32) -> u8
@@ -36,15 +61,24 @@ fn entry(code: u32, count: u32, sums: Sums) -> Entry
     }
 }
 
-// An entry for each size, of its code and its sums.
-pub fn entries_of(codes: &[u32], sizes: &[u32], sums: &[u32]) -> [Entry; MOST_ENTRIES]
-    requires { FiguresLaid codes.now sizes.now sums.now }
-    ensures { result ≡ padded most_entries no_entry (entries_by codes.now sizes.now sums.now) }
+// An entry for each size, of the next of the numbers, as many as the size says.
+pub fn entries_of(
+    pixels: &[u8],
+    numbers: &[u16],
+    codes: &[u32],
+    sizes: &[u32],
+) -> [Entry; MOST_ENTRIES]
+    requires { FiguresLaid pixels.now numbers.now codes.now sizes.now }
+    ensures { result ≡ padded most_entries no_entry (entries_by codes.now sizes.now numbers.now (pixels_of pixels.now)) }
 {
     let mut entries = [no_entry(); MOST_ENTRIES];
+    let mut at = 0;
     let mut k = 0;
     while k < sizes.len() {
-        entries[k] = entry(codes[k], sizes[k], sums_at(sums, k));
+        let end = at + sizes[k] as usize;
+        let sums = gather(pixels, &numbers[at..end]);
+        entries[k] = entry(codes[k], sizes[k], sums);
+        at = end;
         k += 1;
     }
     entries

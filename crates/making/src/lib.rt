@@ -6,11 +6,19 @@ use palette::{Entry, MOST_ENTRIES};
 mod cards;
 mod entries;
 
-pub use cards::make_card;
+pub use cards::{make_card, make_entries};
 
 // How many entries a card has as defined, and the entries where a card may hold so many; the places past them are zero.
 #[derive(Clone, Copy)]
 pub struct CardEntries {
     pub total: u32,
     pub entries: [Entry; MOST_ENTRIES],
+}
+
+// What the pixels of an entry come to, channel by channel.
+#[derive(Clone, Copy)]
+pub struct Sums {
+    pub red: u32,
+    pub green: u32,
+    pub blue: u32,
 }

@@ -3,4 +3,3 @@ pub mod Cards
 pub mod Sound
 pub mod Laws
 pub mod Figures
-pub mod Shapes

@@ -1,23 +1,15 @@
-// What a card is made of and from: its entries, the shape of an image, and the limits on entries and pixels. specs/ defines what a card is; the crate `making` has the code that makes one.
+// What a card is made of: its entries, and the limits on entries and pixels. specs/ defines what a card is; the crate `making` has the code that makes one.
 #![tactic(auto)]
 
 ghost use Rattle.std.specs.Prelude.{◌≡◌, []};
 ghost use Rattle.lists.specs.Lists.{padded};
 ghost use Rattle.palette.specs.Cards.{most_entries, no_entry};
-ghost use Rattle.palette.specs.Shapes.{area};
 
 // The most entries that a card may hold.
 pub const MOST_ENTRIES: usize = 1000;
 
 // The most pixels that a call takes.
 pub const MOST_PIXELS: usize = 65536;
-
-// The width and height of an image, in pixels: how many columns it has, and how many rows.
-#[derive(Clone, Copy)]
-pub struct Shape {
-    pub width: u32,
-    pub height: u32,
-}
 
 // An entry of a card: kind 0 for greys and 1 for colours, its three mode numbers, the mean colour of its pixels, and their count.
 #[repr(C)]
@@ -31,13 +23,6 @@ pub struct Entry {
     pub green: u8,
     pub blue: u8,
     pub count: u32,
-}
-
-// How many pixels an image of this shape has. The product of two 32-bit numbers fits 64 bits.
-pub fn area_of(shape: Shape) -> u64
-    ensures { result ≡ area shape }
-{
-    shape.width as u64 * shape.height as u64
 }
 
 pub fn no_entry() -> Entry

@@ -9,9 +9,10 @@ use borrow.Author.Tests.{eqb-true, ne_eqb}
 use lib.Dec.{eqb}
 use lib.ListN.{length, take, drop, get_or, length-take}
 use lib.Seq.{take-take, get_or-take}
+use Rattle.lists.specs.Lists.{maybe}
 use Rattle.lists.proofs.Connectives.{both_true}
 use Rattle.lists.proofs.Missing.{cond-some, maybe-some}
-use Rattle.swatch.specs.Input.{line_feed, in_front, lines_of, fields_of, header_of, shape_of, size_of, pixel_line}
+use Rattle.swatch.specs.Input.{line_feed, in_front, lines_of, fields_of, header_of, size_of, pixel_line}
 use Rattle.swatch.proofs.Fields.{Clear, clear-fields}
 
 abbrev pub first_line : List ℕ → List ℕ
@@ -81,12 +82,12 @@ pixel-line-cut text row e = let p = maybe-some _ (fields_of 4 3 (take 13 text)) 
 
 -- a swatch of some size has its header
 header-there : (text : List ℕ) → 1 ≤ size_of text → (vs : List ℕ) × (fields_of 6 2 (take 13 text) ≡ some vs)
-unfolding shape_of size_of
-header-there text h = go (header_of text) refl
+unfolding size_of
+header-there text h = go (header_of text) refl h
   where
-    go : (o : Option (List ℕ)) → header_of text ≡ o → (vs : List ℕ) × (fields_of 6 2 (take 13 text) ≡ some vs)
-    go none e = absurd (omega (arith, rw e at h))
-    go (some vs) e = (vs, sym (header_at text) ∙ e)
+    go : (o : Option (List ℕ)) → header_of text ≡ o → 1 ≤ maybe 0 (λ vs. get_or vs 0 0 * get_or vs 1 0) o → (vs : List ℕ) × (fields_of 6 2 (take 13 text) ≡ some vs)
+    go none e k = absurd (omega arith)
+    go (some vs) e k = (vs, sym (header_at text) ∙ e)
 
 pub header-cut : (text : List ℕ) → 1 ≤ size_of text → lines_of text ≡ take 13 text ∷ lines_of (drop 13 text)
 header-cut text h = let p = header-there text h in line-cut 6 2 text p.0 refl p.1

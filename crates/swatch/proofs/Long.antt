@@ -9,7 +9,7 @@ use lib.ListN.{length, take}
 use lib.Seq.{take-take, length-take-le}
 use Rattle.lists.specs.Lists.{missing}
 use Rattle.lists.proofs.Cases.{by_cond}
-use Rattle.swatch.specs.Input.{header_of, shape_of, size_of, pixel_bytes}
+use Rattle.swatch.specs.Input.{header_of, size_of, pixel_bytes}
 use Rattle.swatch.specs.Reading.{bad_size, swatch_number, reading_of, longest_swatch, LongReading}
 use Rattle.swatch.proofs.Lines.{header_at}
 use Rattle.swatch.proofs.Rows.{bytes-none}
@@ -41,20 +41,20 @@ long-positive header pixels =
 header-front : (n : ℕ) (text : List ℕ) → 13 ≤ n → header_of (take n text) ≡ header_of text
 header-front n text h = header_at (take n text) ∙ rw (take-take 13 n text h) (sym (header_at text))
 
-shape-front : (n : ℕ) (text : List ℕ) → 13 ≤ n → shape_of (take n text) ≡ shape_of text
-unfolding shape_of
-shape-front n text h = rw (header-front n text h)
+size-front : (n : ℕ) (text : List ℕ) → 13 ≤ n → size_of (take n text) ≡ size_of text
+unfolding size_of
+size-front n text h = rw (header-front n text h)
 
 longest-header : 13 ≤ suc longest_swatch
 unfolding longest_swatch
 longest-header = omega arith
 
 pub long-text : LongReading
-unfolding size_of reading_of
+unfolding reading_of
 long-text text h =
     let n : ℕ = suc longest_swatch in
     let long : length (take n text) ≡ n = length-take-le n text h in
     let header : 13 ≤ n = longest-header in
-    let shape : shape_of (take n text) ≡ shape_of text = shape-front n text header in
-    let number : swatch_number (take n text) ≡ swatch_number text = long-number (take n text) (omega arith) ∙ rw (header-front n text header, shape) (sym (long-number text h)) in
-    (rw (number, shape), rw (long-number text h) (long-positive (header_of text) (size_of text)))
+    let size : size_of (take n text) ≡ size_of text = size-front n text header in
+    let number : swatch_number (take n text) ≡ swatch_number text = long-number (take n text) (omega arith) ∙ rw (header-front n text header, size) (sym (long-number text h)) in
+    (rw (number, size), rw (long-number text h) (long-positive (header_of text) (size_of text)))

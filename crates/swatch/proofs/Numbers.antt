@@ -1,7 +1,7 @@
 -- Which number a text gets, ground by ground, and the reading with that number. Assumes nothing.
 use Prim.Native.Nat.{ℕ, suc, ◌*◌, ◌≤◌, ◌<◌}
-use mathlib.Core.Path.{◌≡◌, refl, ap}
-use mathlib.Core.Bool.{Bool, true, false, cond, or-true}
+use mathlib.Core.Path.{◌≡◌}
+use mathlib.Core.Bool.{true, false, cond, or-true}
 use mathlib.Core.List.{List, [], ◌∷◌}
 use mathlib.Core.Option.{none, some}
 use native.Mathlib.Omega.{arith}
@@ -9,21 +9,15 @@ use borrow.Author.Tests.{lt-ltb, le-ltb, ltb-false, ne_eqb, eqb-false}
 use lib.Dec.{ltb, eqb, eqb-suc-zero}
 use Rattle.lists.specs.Lists.{missing}
 use Rattle.lists.proofs.Connectives.{both_false}
-use Rattle.palette.specs.Shapes.{area}
-use Rattle.swatch.specs.Input.{header_of, shape_of, size_of, pixel_bytes}
+use Rattle.swatch.specs.Input.{header_of, size_of, pixel_bytes}
 use Rattle.swatch.specs.Reading.{most_swatch_pixels, bad_size, swatch_number, reading_of}
 use Rattle.swatch.specs.declared.Reading.{Reading}
 
--- ---- the header's shape, and its size
-pub shape_is : (text : List ℕ) (w h : ℕ) → header_of text ≡ some (w ∷ h ∷ []) → shape_of text ≡ record { width = w; height = h }
-unfolding shape_of
-shape_is text w h e = rw e
-
 pub size_is : (text : List ℕ) (w h : ℕ) → header_of text ≡ some (w ∷ h ∷ []) → size_of text ≡ w * h
 unfolding size_of
-size_is text w h e = ap area (shape_is text w h e)
+size_is text w h e = rw e
 
--- ---- which sizes are good
+-- ---- the size
 pub size-large : (n : ℕ) → most_swatch_pixels < n → bad_size n ≡ true
 size-large n h = rw (lt-ltb most_swatch_pixels n h) (or-true (eqb n 0))
 
@@ -44,21 +38,11 @@ pub number-sized : (text vs : List ℕ) → header_of text ≡ some vs → swatc
 unfolding swatch_number
 number-sized text vs e = rw e
 
--- a swatch that is served has a good size
-pub number-served : (text : List ℕ) → swatch_number text ≡ 0 → bad_size (area (shape_of text)) ≡ false
-unfolding size_of swatch_number
-number-served text z = go (missing (header_of text)) (bad_size (size_of text)) (missing (pixel_bytes text)) z
-  where
-    go : (a b c : Bool) → ◌≡◌ {A = ℕ} (cond a 1 (cond b 2 (cond c 3 0))) 0 → b ≡ false
-    go true b c z = absurd (omega arith)
-    go false true c z = absurd (omega arith)
-    go false false c z = refl
-
 -- ---- the reading
-pub reading-refused : (text : List ℕ) (n : ℕ) → swatch_number text ≡ suc n → ◌≡◌ {A = Reading} (record { number = suc n; shape = record { width = 0; height = 0 } }) (reading_of text)
+pub reading-refused : (text : List ℕ) (n : ℕ) → swatch_number text ≡ suc n → ◌≡◌ {A = Reading} (record { number = suc n; pixels = 0 }) (reading_of text)
 unfolding reading_of
 reading-refused text n e = rw (e, eqb-suc-zero n)
 
-pub reading-served : (text : List ℕ) → swatch_number text ≡ 0 → ◌≡◌ {A = Reading} (record { number = 0; shape = shape_of text }) (reading_of text)
+pub reading-served : (text : List ℕ) → swatch_number text ≡ 0 → ◌≡◌ {A = Reading} (record { number = 0; pixels = size_of text }) (reading_of text)
 unfolding reading_of
 reading-served text e = rw e

@@ -1,12 +1,12 @@
 -- What reading a swatch hands back: grounds 1, 2 and 3, in their order. Assumes nothing.
 --   given                       a value that may be missing, as the code hands it back
 --   colour_field                 a field of 0 to 255
---   swatch_number, reading_of     the number of a text; its number and its shape
+--   swatch_number, reading_of     the number of a text; its number and how many pixels it has
 --   longest_swatch, LongReading     how many bytes the longest swatch has; how longer texts are read
 use Rattle.std.specs.Prelude.{ℕ, suc, ◌*◌, ◌<◌, ◌≡◌, Bool, cond, ◌||◌, List, leb, ltb, eqb, length, take}
 use Rattle.std.proofs.Math.Option.{Option, none, some}
 use Rattle.lists.specs.Lists.{maybe, missing}
-use Rattle.swatch.specs.Input.{field, header_of, shape_of, size_of, pixel_bytes}
+use Rattle.swatch.specs.Input.{field, header_of, size_of, pixel_bytes}
 use Rattle.swatch.specs.declared.Reading.{Reading}
 
 -- a value that may be missing: the code hands back whether it is there, and the value
@@ -30,7 +30,7 @@ swatch_number text = cond (missing (header_of text)) 1 (cond (bad_size (size_of 
 
 -- A3: if the number is not 0, the number alone
 unfoldable pub reading_of : List ℕ → Reading
-reading_of text = record { number = swatch_number text; shape = cond (eqb (swatch_number text) 0) (shape_of text) (record { width = 0; height = 0 }) }
+reading_of text = record { number = swatch_number text; pixels = cond (eqb (swatch_number text) 0) (size_of text) 0 }
 
 -- a header and as many pixel lines as a swatch may have, 13 bytes each
 unfoldable pub longest_swatch : ℕ

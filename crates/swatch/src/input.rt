@@ -1,6 +1,5 @@
 // Reading a swatch. Line k is always read from byte 13k on: an earlier line feed would stand in a column of a field, where it is refused.
 ghost use Rattle.std.specs.Prelude.{◌≡◌, [], ◌∷◌, ◌*◌, ◌≤◌, length, take, drop};
-ghost use Rattle.palette.specs.Shapes.{area};
 ghost use Rattle.swatch.specs.Input.{
   after_spaces,
   is_digit,
@@ -15,7 +14,6 @@ ghost use Rattle.swatch.specs.Input.{
 ghost use Rattle.swatch.specs.Reading.{given, colour_field, most_swatch_pixels, reading_of};
 
 use crate::{COLUMNS, LINE, MOST_SWATCH_PIXELS, Reading};
-use palette::{Shape, area_of};
 
 // The value of a field, if there is one.
 #[derive(Clone, Copy)]
@@ -36,17 +34,12 @@ struct Colour {
     value: u8,
 }
 
-// The shape of a swatch that is turned down.
-const NO_SHAPE: Shape = Shape {
-    width: 0,
-    height: 0,
-};
-
 // The two fields of a header, if both are there.
 #[derive(Clone, Copy)]
-struct FirstLine {
+struct Size {
     there: bool,
-    shape: Shape,
+    width: u32,
+    height: u32,
 }
 
 // The fields of a pixel line, if all three are there, each of 0 to 255.
@@ -131,25 +124,24 @@ fn colour_value(columns: &[u8]) -> Colour
 }
 
 // The header's fields: those of the first 13 bytes.
-fn header(text: &[u8]) -> FirstLine
-    ensures { given result.there (result.shape.width ∷ result.shape.height ∷ []) ≡ header_of text.now }
+fn header(text: &[u8]) -> Size
+    ensures { given result.there (result.width ∷ result.height ∷ []) ≡ header_of text.now }
 {
     if text.len() < LINE {
-        return FirstLine {
+        return Size {
             there: false,
-            shape: NO_SHAPE,
+            width: 0,
+            height: 0,
         };
     }
     let line = &text[..LINE];
     let width = field_value(&line[0..6]);
     let height = field_value(&line[6..12]);
     let ended = line[COLUMNS] == b'\n';
-    FirstLine {
+    Size {
         there: ended & width.there & height.there,
-        shape: Shape {
-            width: width.value,
-            height: height.value,
-        },
+        width: width.value,
+        height: height.value,
     }
 }
 
@@ -199,34 +191,36 @@ fn pixel_lines(text: &[u8], pixels: usize, bytes: &mut [u8]) -> bool
 pub fn read(text: &[u8], bytes: &mut [u8]) -> Reading
     requires { 3 * most_swatch_pixels ≤ length bytes.old }
     ensures { (result ≡ reading_of text.now)
-        × (result.number ≡ 0 → take (3 * area result.shape) bytes.new ≡ bytes_of text.now) }
+        × (result.number ≡ 0 → take (3 * result.pixels) bytes.new ≡ bytes_of text.now) }
 {
-    let first = header(text);
-    if !first.there {
+    let size = header(text);
+    if !size.there {
         return Reading {
             number: 1,
-            shape: NO_SHAPE,
+            pixels: 0,
         };
     }
-    let shape = first.shape;
-    let pixels = area_of(shape);
+    let pixels = size.width as u64 * size.height as u64;
     if pixels == 0 {
         return Reading {
             number: 2,
-            shape: NO_SHAPE,
+            pixels: 0,
         };
     }
     if pixels > MOST_SWATCH_PIXELS as u64 {
         return Reading {
             number: 2,
-            shape: NO_SHAPE,
+            pixels: 0,
         };
     }
     if !pixel_lines(text, pixels as usize, bytes) {
         return Reading {
             number: 3,
-            shape: NO_SHAPE,
+            pixels: 0,
         };
     }
-    Reading { number: 0, shape }
+    Reading {
+        number: 0,
+        pixels: pixels as u32,
+    }
 }

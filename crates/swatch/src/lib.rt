@@ -1,7 +1,7 @@
 // The text of a swatch, and the text of its card.
 #![tactic(auto)]
 
-use palette::{MOST_ENTRIES, Shape};
+use palette::MOST_ENTRIES;
 
 mod input;
 mod printing;
@@ -23,9 +23,9 @@ pub const LONGEST_SWATCH: usize = LINE + LINE * MOST_SWATCH_PIXELS;
 // The most bytes that a printed card may have: a line of 3 fields, and a line of 8 for each entry.
 pub const PRINTED_MOST: usize = 19 + 49 * MOST_ENTRIES;
 
-// What reading a swatch gives: number 0 and its width and height, or the ground on which it is turned down and 0 for both.
+// What reading a swatch gives: number 0 and how many pixels it has, or the ground on which it is turned down and 0 pixels.
 #[derive(Clone, Copy)]
 pub struct Reading {
     pub number: u32,
-    pub shape: Shape,
+    pub pixels: u32,
 }

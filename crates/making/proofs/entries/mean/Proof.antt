@@ -8,7 +8,7 @@ use mir.Syntax.{w8}
 use mir.Val.{Fits}
 use Rattle.palette.specs.Cards.{mean_by}
 use Rattle.palette.specs.Sound.{most_pixels}
-use Rattle.columns.specs.Columns.{largest_byte}
+use Rattle.making.specs.Making.{largest_byte}
 use Rattle.making.proofs.entries.mean.Statement.{statement}
 use Rattle.making.proofs.entries.mean.Tie as tie
 

@@ -2,8 +2,8 @@
 use native.Mathlib.Omega.{arith}
 use borrow.Author.Rules.{rules}
 use Rattle.palette.specs.Sound.{most_pixels}
-use Rattle.columns.proofs.plus.Statement.{statement}
-use Rattle.columns.proofs.plus.Tie as tie
+use Rattle.making.proofs.entries.plus.Statement.{statement}
+use Rattle.making.proofs.entries.plus.Tie as tie
 
 add-result : tie.Need-overflow_add-result
 unfolding most_pixels
