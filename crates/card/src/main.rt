@@ -68,16 +68,15 @@ fn answer(text: &[u8]) -> Printed
 }
 
 // Writes what is printed, by as many writes as it takes. A write that takes nothing has failed.
-fn write<W: Write>(output: &mut W, printed: Printed) -> io::Result<()>
-    requires { HasRoom printed }
-    ensures all { OnOk result (PrintsAll (W.contents output.old) (W.contents output.new) printed) }
-    ensures part { OnErr result (PrintsPart (W.contents output.old) (W.contents output.new) printed) }
+fn write<W: Write>(output: &mut W, printed: &Printed) -> io::Result<()>
+    requires { HasRoom printed.now }
+    ensures all { OnOk result (PrintsAll (W.contents output.old) (W.contents output.new) printed.now) }
+    ensures part { OnErr result (PrintsPart (W.contents output.old) (W.contents output.new) printed.now) }
 {
-    let bytes = printed.bytes;
     let len = printed.len as usize;
     let mut done = 0;
     while done < len {
-        let put = output.write(&bytes[done..len])?;
+        let put = output.write(&printed.bytes[done..len])?;
         if put == 0 {
             return Err(ErrorKind::WriteZero.into());
         }
@@ -102,7 +101,8 @@ fn run<R: Read, W: Write>(input: &mut R, output: &mut W) -> Result<(), Failure>
         Ok(len) => len,
         Err(e) => return Err(Failure::Input(e)),
     };
-    match write(output, answer(&text[..len])) {
+    let printed = answer(&text[..len]);
+    match write(output, &printed) {
         Ok(()) => Ok(()),
         Err(e) => Err(Failure::Output(e)),
     }
