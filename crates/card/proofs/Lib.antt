@@ -1,1 +1,5 @@
 mod Long
+mod Room
+mod Streams
+mod Enough
+mod Replies

@@ -2,12 +2,15 @@
 // If reading or writing fails, it says so on standard error; a text that could not be read to its end gets no answer.
 #![tactic(auto)]
 
-ghost use Rattle.std.specs.Prelude.{◌≡◌, ◌≤◌, length};
-ghost use Rattle.io.specs.Counts.{IsPrefixLen};
-ghost use Rattle.card.specs.Program.{most_read, program_answer, HasRoom};
+ghost use Rattle.std.specs.Prelude.{◌≡◌, ◌≤◌, IfOk, OnOk, IfErr, OnErr, length, take};
+ghost use Rattle.std.specs.Io.{ReadsAtMost};
+ghost use Rattle.std.specs.Io.KnownBytes.{ReadConsumes};
+ghost use Rattle.card.specs.Program.{most_read, program_answer, HasRoom, ReadsEnough, ReadsPart, PrintsAll, PrintsPart, WritesAnswer, StopsShort};
 
+use arrayvec::ArrayString;
 use kistrovu::{Printed, kistrovu_print_card, kistrovu_print_ground};
-use libc::{EINTR, STDIN_FILENO, STDOUT_FILENO};
+use std::fmt::Write as _;
+use std::io::{self, ErrorKind, Read, Write};
 use swatch::LONGEST_SWATCH;
 
 // One byte more than the longest swatch. A longer text gets the same number as these bytes alone.
@@ -16,49 +19,44 @@ const MOST_TEXT: usize = LONGEST_SWATCH + 1;
 // How many times an interrupted read is tried again. Signals may never stop coming, but the program must end.
 const MOST_RETRIES: u32 = 1000;
 
-// How many bytes were read (none if the text has ended), and whether reading failed.
-#[derive(Clone, Copy)]
-struct Input {
-    len: usize,
-    failed: bool,
-}
-
 // One read into the first places of `room`, tried again if a signal interrupts it.
-fn read_some(room: &mut [u8]) -> Input
-    ensures { result.len ≤ length room.old }
+fn read_some<R: Read>(input: &mut R, room: &mut [u8]) -> io::Result<usize>
+    ensures bound { ReadsAtMost result room.new }
+    ensures bytes { ReadConsumes (R.remaining input.old) (R.remaining input.new) result room.new }
 {
-    let mut retries = MOST_RETRIES;
-    let mut got = libc::read(STDIN_FILENO, room);
-    while retries > 0 && got < 0 && os::errno() == EINTR {
-        got = libc::read(STDIN_FILENO, room);
-        retries -= 1;
+    for _ in 0..MOST_RETRIES {
+        match input.read(room) {
+            Ok(n) => return Ok(n),
+            Err(e) => {
+                if e.kind() != ErrorKind::Interrupted {
+                    return Err(e);
+                }
+            }
+        }
     }
-    Input {
-        len: io::count(got, room),
-        failed: got < 0,
-    }
+    input.read(room)
 }
 
 // Reads until the text ends or `text` is full.
-fn read_text(text: &mut [u8]) -> Input
+fn read_text<R: Read>(input: &mut R, text: &mut [u8]) -> io::Result<usize>
     requires { length text.old ≡ most_read }
-    ensures { IsPrefixLen result.len text.new }
+    ensures prefix { ReadsAtMost result text.new }
+    ensures bytes { IfOk result (λ n. ReadsEnough (R.remaining input.old) (R.remaining input.new) (take n text.new)) }
+    ensures err { OnErr result (ReadsPart (R.remaining input.old) (R.remaining input.new) text.new) }
 {
     let mut len = 0;
     while len < text.len() {
-        let got = read_some(&mut text[len..]);
-        if got.len == 0 {
-            return Input {
-                len,
-                failed: got.failed,
-            };
+        let got = read_some(input, &mut text[len..])?;
+        if got == 0 {
+            return Ok(len);
         }
-        len += got.len;
+        len += got;
     }
-    Input { len, failed: false }
+    Ok(len)
 }
 
 // What is printed for a text.
+#[tactic(auto, using(crate::proofs::Replies::served_reply, crate::proofs::Replies::ground_reply))]
 fn answer(text: &[u8]) -> Printed
     ensures { result ≡ program_answer text.now }
 {
@@ -69,23 +67,67 @@ fn answer(text: &[u8]) -> Printed
     printed
 }
 
-fn write(printed: Printed)
-    requires { HasRoom printed }
+// Writes what is printed, by as many writes as it takes. A write that takes nothing has failed.
+fn write<W: Write>(output: &mut W, printed: &Printed) -> io::Result<()>
+    requires { HasRoom printed.now }
+    ensures all { OnOk result (PrintsAll (W.contents output.old) (W.contents output.new) printed.now) }
+    ensures part { OnErr result (PrintsPart (W.contents output.old) (W.contents output.new) printed.now) }
 {
-    let bytes = printed.bytes;
     let len = printed.len as usize;
-    if !io::write_all(STDOUT_FILENO, &bytes[..len]) {
-        os::fail(b"card: standard output");
+    let mut done = 0;
+    while done < len {
+        let put = output.write(&printed.bytes[done..len])?;
+        if put == 0 {
+            return Err(ErrorKind::WriteZero.into());
+        }
+        done += put;
+    }
+    Ok(())
+}
+
+// Why there is no answer, or not all of it.
+enum Failure {
+    Input(io::Error),
+    Output(io::Error),
+}
+
+// Reads the text and writes what is printed for it. If reading fails, nothing is written.
+fn run<R: Read, W: Write>(input: &mut R, output: &mut W) -> Result<(), Failure>
+    ensures ok { OnOk result (WritesAnswer (R.remaining input.old) (W.contents output.old) (W.contents output.new)) }
+    ensures err { IfErr result (λ f. StopsShort f (R.remaining input.old) (W.contents output.old) (W.contents output.new)) }
+{
+    let mut text = [0u8; MOST_TEXT];
+    let len = match read_text(input, &mut text) {
+        Ok(len) => len,
+        Err(e) => return Err(Failure::Input(e)),
+    };
+    let printed = answer(&text[..len]);
+    match write(output, &printed) {
+        Ok(()) => Ok(()),
+        Err(e) => Err(Failure::Output(e)),
     }
 }
 
-fn main() {
-    let mut text = [0u8; MOST_TEXT];
-    let input = read_text(&mut text);
-    if input.failed {
-        os::fail(b"card: standard input");
-        return;
+// The system's words for an error, without the number that std writes after them.
+fn words(text: &str) -> &str {
+    match text.rsplit_once(" (os error ") {
+        Some((words, _)) => words,
+        None => text,
     }
-    let len = input.len;
-    write(answer(&text[..len]));
+}
+
+// A line on standard error: what failed, and why.
+fn say(rt: &impl Eprint, what: &str, error: io::Error) {
+    let mut text = ArrayString::<128>::new();
+    let _ = write!(text, "{error}");
+    let why = words(text.as_str());
+    let _ = eprintln!(rt; "{what}: {why}");
+}
+
+fn main(rt: HostRuntime) {
+    match run(&mut rt.stdin(), &mut rt.stdout()) {
+        Ok(()) => {}
+        Err(Failure::Input(e)) => say(&rt, "card: standard input", e),
+        Err(Failure::Output(e)) => say(&rt, "card: standard output", e),
+    }
 }

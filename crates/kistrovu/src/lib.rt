@@ -1,5 +1,6 @@
 // The public calls, and nothing else. Each contract says what the call promises for every input, served or turned down (demands D1 to
-// D3 of docs/METHOD.md). No call has a precondition. `now s.entry` is the list as it was lent, `now s.exit` as the call leaves it.
+// D3 of docs/METHOD.md). No call has a precondition. `s.old` is the list as it was lent, `s.new` as the call leaves it. The crate
+// kistrovu_c hands each call to C under the same name and with the same clauses.
 #![tactic(auto)]
 
 ghost use Rattle.std.specs.Prelude.{◌≡◌, pos, length};
@@ -104,16 +105,14 @@ pub struct Printed {
 }
 
 // The version of the library. No ground concerns it.
-#[unsafe(no_mangle)]
-pub extern "C" fn kistrovu_version() -> u32
+pub fn kistrovu_version() -> u32
     ensures { result ≡ library_version }
 {
     VERSION
 }
 
 // The measures of one pixel. No ground concerns it.
-#[unsafe(no_mangle)]
-pub extern "C" fn kistrovu_measures(red: u8, green: u8, blue: u8) -> MeasuresAnswer
+pub fn kistrovu_measures(red: u8, green: u8, blue: u8) -> MeasuresAnswer
     ensures { result ≡ measures_answer red green blue }
 {
     MeasuresAnswer {
@@ -123,8 +122,7 @@ pub extern "C" fn kistrovu_measures(red: u8, green: u8, blue: u8) -> MeasuresAns
 }
 
 // The fit of a whole histogram. Grounds 6, 7.
-#[unsafe(no_mangle)]
-pub extern "C" fn kistrovu_fit(histogram: &[u32], rising: bool) -> FitAnswer
+pub fn kistrovu_fit(histogram: &[u32], rising: bool) -> FitAnswer
     ensures { (result ≡ fit_answer rising histogram.now)
         × IfServed result.number (Pooled (direction rising) histogram.now) }
 {
@@ -143,8 +141,7 @@ pub extern "C" fn kistrovu_fit(histogram: &[u32], rising: bool) -> FitAnswer
 }
 
 // The verdict of a whole histogram. Grounds 6, 7, 8.
-#[unsafe(no_mangle)]
-pub extern "C" fn kistrovu_verdict(histogram: &[u32], rising: bool, closeness: i32) -> VerdictAnswer
+pub fn kistrovu_verdict(histogram: &[u32], rising: bool, closeness: i32) -> VerdictAnswer
     ensures { (result ≡ verdict_answer closeness rising histogram.now)
         × IfServed result.number (VerdictSound closeness (direction rising) histogram.now) }
 {
@@ -166,12 +163,7 @@ pub extern "C" fn kistrovu_verdict(histogram: &[u32], rising: bool, closeness: i
 }
 
 // The modes of a line: its separators, rising, in the first places of the list. Grounds 6, 7, 8, 10.
-#[unsafe(no_mangle)]
-pub extern "C" fn kistrovu_line_modes(
-    histogram: &[u32],
-    closeness: i32,
-    separators: &mut [u32],
-) -> ModesAnswer
+pub fn kistrovu_line_modes(histogram: &[u32], closeness: i32, separators: &mut [u32]) -> ModesAnswer
     ensures { (result ≡ line_answer closeness histogram.now (length separators.old))
         × (separators.new ≡ line_list closeness histogram.now separators.old)
         × IfServed result.number (LineFinished closeness histogram.now) }
@@ -194,12 +186,7 @@ pub extern "C" fn kistrovu_line_modes(
 }
 
 // The modes of a ring, joined all round it: its separators, from the lowest bin number up, in the first places of the list. Grounds 6, 7, 8, 10.
-#[unsafe(no_mangle)]
-pub extern "C" fn kistrovu_ring_modes(
-    histogram: &[u32],
-    closeness: i32,
-    separators: &mut [u32],
-) -> ModesAnswer
+pub fn kistrovu_ring_modes(histogram: &[u32], closeness: i32, separators: &mut [u32]) -> ModesAnswer
     ensures { (result ≡ ring_answer closeness histogram.now (length separators.old))
         × (separators.new ≡ ring_list closeness histogram.now separators.old)
         × IfServed result.number (RingFinished closeness histogram.now × RingOrdered closeness histogram.now) }
@@ -218,8 +205,7 @@ pub extern "C" fn kistrovu_ring_modes(
 }
 
 // The joins of a line in turn: the record of each, four numbers, in the first places of the log. Grounds 6, 7, 8, 10.
-#[unsafe(no_mangle)]
-pub extern "C" fn kistrovu_join_log(histogram: &[u32], closeness: i32, log: &mut [i64]) -> LogAnswer
+pub fn kistrovu_join_log(histogram: &[u32], closeness: i32, log: &mut [i64]) -> LogAnswer
     ensures { (result ≡ log_answer closeness histogram.now (length log.old))
         × (log.new ≡ log_list closeness histogram.now log.old)
         × IfServed result.number (LogSound closeness histogram.now) }
@@ -235,8 +221,7 @@ pub extern "C" fn kistrovu_join_log(histogram: &[u32], closeness: i32, log: &mut
 }
 
 // The modes of a line, by a log of its joins that may come from anywhere: its separators, rising, in the first places of the list. Grounds 6, 7, 8, 10, 20.
-#[unsafe(no_mangle)]
-pub extern "C" fn kistrovu_replay(
+pub fn kistrovu_replay(
     histogram: &[u32],
     closeness: i32,
     log: &[i64],
@@ -268,8 +253,7 @@ pub extern "C" fn kistrovu_replay(
 }
 
 // The card of an image of three bytes a pixel, and the label of each pixel: its entry's number. Grounds 4, 5, 8, 9, 11.
-#[unsafe(no_mangle)]
-pub extern "C" fn kistrovu_card(pixels: &[u8], closeness: i32, labels: &mut [u16]) -> Card
+pub fn kistrovu_card(pixels: &[u8], closeness: i32, labels: &mut [u16]) -> Card
     ensures { (result ≡ card_answer closeness pixels.now (length labels.old))
         × (labels.new ≡ label_list closeness pixels.now labels.old)
         × IfServed result.number (SoundAnswer closeness pixels.now result labels.new) }
@@ -299,8 +283,7 @@ pub extern "C" fn kistrovu_card(pixels: &[u8], closeness: i32, labels: &mut [u16
 }
 
 // Labels of one byte, widened: each number unchanged. The answer is the number of the call. Ground 9.
-#[unsafe(no_mangle)]
-pub extern "C" fn kistrovu_widen_labels(narrow: &[u8], labels: &mut [u16]) -> u32
+pub fn kistrovu_widen_labels(narrow: &[u8], labels: &mut [u16]) -> u32
     ensures { (result ≡ widen_number narrow.now (length labels.old))
         × (labels.new ≡ widened_list narrow.now labels.old) }
 {
@@ -312,8 +295,7 @@ pub extern "C" fn kistrovu_widen_labels(narrow: &[u8], labels: &mut [u16]) -> u3
 }
 
 // The text of the card of a swatch that is given as text. Grounds 1, 2, 3, 11.
-#[unsafe(no_mangle)]
-pub extern "C" fn kistrovu_print_card(text: &[u8]) -> Printed
+pub fn kistrovu_print_card(text: &[u8]) -> Printed
     ensures { (result ≡ printed_answer text.now)
         × IfServed result.number (SoundCard (pos program_closeness) (pixels_of (bytes_of text.now))) }
 {
@@ -328,8 +310,7 @@ pub extern "C" fn kistrovu_print_card(text: &[u8]) -> Printed
 
 // The line that the card program prints for a swatch that is turned down: the number of the ground. The call takes any number, and
 // prints the last six digits of one that has more. No ground concerns it.
-#[unsafe(no_mangle)]
-pub extern "C" fn kistrovu_print_ground(number: u32) -> Printed
+pub fn kistrovu_print_ground(number: u32) -> Printed
     ensures { result ≡ ground_answer number }
 {
     let mut bytes = [0u8; PRINTED_MOST];

@@ -1,3 +1,2 @@
-mod Nearer
-mod Tables
+pub mod Tables
 pub mod Example

@@ -116,11 +116,11 @@ returns-2 c =
     let lent = (start m.before.before.before.before.before).args.labels.now in
     let total = m.make_card-made.result.total in
     let zero = sym (asked (before-made m.before.before.before.before.before)) ∙ m.if-number-ne0.false in
-    let is = total_made m in
+    let is = total_made m.before.before.before.before.before in
     let size : most_entries < total = omega arith in
     let n = many-number e bytes (length lent) total zero is size in
-    let es = ap (λ (x : CardEntries). x.entries) (card-made m) ∙ many-entries e bytes (length lent) total zero is size in
-    let ls = labels-made m ∙ many-left e bytes (length lent) total zero is size lent in (
+    let es = ap (λ (x : CardEntries). x.entries) (card-made m.before.before.before.before.before) ∙ many-entries e bytes (length lent) total zero is size in
+    let ls = labels-made m.before.before.before.before.before ∙ many-left e bytes (length lent) total zero is size lent in (
       ap (made 11 0) es ∙ card-refused e bytes lent 11 n (λ z. absurd (omega (arith, z))),
       ls ∙ labels-as-lent e bytes lent 11 n (λ z. absurd (omega (arith, z))),
       λ z. absurd (omega (arith, z)),
@@ -139,15 +139,15 @@ returns-3 c =
     let total = m.make_card-made.result.total in
     let left = m.if-number-ne0.false in
     let zero = sym (asked (before-made m.before.before.before.before.before)) ∙ left in
-    let is = total_made m in
+    let is = total_made m.before.before.before.before.before in
     let size : total ≤ most_entries = omega arith in
     let n = few-number e bytes (length lent) total zero is size in
-    let es = ap (λ (x : CardEntries). x.entries) (card-made m) ∙ few-entries e bytes (length lent) total zero is size in
-    let ls = labels-made m ∙ few-left e bytes (length lent) total zero is size lent in
-    let byte : (j : ℕ) → get_or bytes j 0 < 256 = λ j. let known = (before-made m).shared_slice_known-1.given j in omega arith in (
+    let es = ap (λ (x : CardEntries). x.entries) (card-made m.before.before.before.before.before) ∙ few-entries e bytes (length lent) total zero is size in
+    let ls = labels-made m.before.before.before.before.before ∙ few-left e bytes (length lent) total zero is size lent in
+    let byte : (j : ℕ) → get_or bytes j 0 < 256 = λ j. let known = (before-made m.before.before.before.before.before).shared_slice_known-1.given j in omega arith in (
       ap (made 0 total) es ∙ ap (λ (k : ℕ). made 0 k (padded most_entries no_entry (entries e (pixels_of bytes)))) is ∙ card-served e bytes lent 0 n refl,
       ls ∙ labels-served e bytes lent 0 n refl,
-      λ z. handed-sound e bytes _ _ _ is es ls (card-sound e bytes (length lent) byte (none (before-made m) left)),
+      λ z. handed-sound e bytes _ _ _ is es ls (card-sound e bytes (length lent) byte (none (before-made m.before.before.before.before.before) left)),
     )
 
 pub kistrovu_card_spec : {M : Type 1} → statement M

@@ -101,7 +101,7 @@ returns-2 c =
     let other = replay-other a.closeness a.histogram.now a.log.now (length a.separators.now) (zero_number (asked p.before.before.before.before)) (sym (same-is p.before.before.before.before) ∙ followed) in
     let down = list-turned-down line_separators a.closeness a.histogram.now a.separators.now _ 20 (sym other) (λ z. absurd (omega arith)) in (
       down.answer,
-      p.replay-replayed.ensures.2 ∙ ap (λ (t : Bool). cond t (over (listed p) a.separators.now) a.separators.now) followed ∙ down.left,
+      p.replay-replayed.ensures.2 ∙ ap (λ (t : Bool). cond t (over (listed p.before.before.before.before) a.separators.now) a.separators.now) followed ∙ down.left,
       accepts-only a.closeness a.histogram.now a.log.now (length a.separators.now),
       λ z. absurd (omega arith),
     )
@@ -117,16 +117,16 @@ returns-3 c =
     let m = (asked p.before.before.before.before) in
     let followed = was-true _ c.if-not-replayed.false in
     let same = sym (same-is p.before.before.before.before) ∙ followed in
-    let z = replay-same a.closeness a.histogram.now a.log.now (length a.separators.now) (zero_number (asked p)) same in
-    let count = p.replay-replayed.ensures.1 ∙ ap (λ (t : Bool). cond t (length (listed p)) 0) followed in
-    let left = p.replay-replayed.ensures.2 ∙ ap (λ (t : Bool). cond t (over (listed p) a.separators.now) a.separators.now) followed in
-    let served = list-served line_separators a.closeness a.histogram.now a.separators.now _ z _ (close-is p) _ _ count left in (
+    let z = replay-same a.closeness a.histogram.now a.log.now (length a.separators.now) (zero_number (asked p.before.before.before.before)) same in
+    let count = p.replay-replayed.ensures.1 ∙ ap (λ (t : Bool). cond t (length (listed p.before.before.before.before)) 0) followed in
+    let left = p.replay-replayed.ensures.2 ∙ ap (λ (t : Bool). cond t (over (listed p.before.before.before.before) a.separators.now) a.separators.now) followed in
+    let served = list-served line_separators a.closeness a.histogram.now a.separators.now _ z _ (close-is p.before.before.before.before) _ _ count left in (
       served.answer,
       served.left,
       accepts-only a.closeness a.histogram.now a.log.now (length a.separators.now),
       λ u. (
         (log-always-decided a.closeness a.histogram.now a.log.now).replayed ((line-log-same a.closeness a.histogram.now a.log.now).0 same),
-        line-finished a.closeness a.histogram.now a.separators.now _ (number m) (asked p).if-number-ne0.false,
+        line-finished a.closeness a.histogram.now a.separators.now _ (number m.before) (asked p.before.before.before.before).if-number-ne0.false,
       ),
     )
 

@@ -106,13 +106,13 @@ returns-2 c =
     let es = entries (pos 0) (pixels_of (pixels m.before.before.before.before.before.before.before.before)) in
     let long = pixels-length (pixels m.before.before.before.before.before.before.before.before) (length (pixels m.before.before.before.before.before.before.before.before) / 3) (start m.before.before.before.before.before.before.before.before).requires.0 in
     let one = le-ltb most_entries (length es) (omega (arith, total_made m.before.before.before.before.before.before.before.before)) in
-    let text = ap (λ (xs : List Entry). printed_card (length (pixels m) / 3) 0 xs) (held m (omega arith)) ∙ ap (λ (k : ℕ). printed_card k 0 es) (sym long) in (
+    let text = ap (λ (xs : List Entry). printed_card (length (pixels m.before.before.before.before.before.before.before.before) / 3) 0 xs) (held m.before.before.before.before.before.before.before.before (omega arith)) ∙ ap (λ (k : ℕ). printed_card k 0 es) (sym long) in (
       rw one (record {
         numbered = refl;
         long = w.ensures.1 ∙ ap length text;
-        written = w.ensures.0 ∙ ap (λ (xs : List ℕ). over xs (start m).args.out.now) text;
+        written = w.ensures.0 ∙ ap (λ (xs : List ℕ). over xs (start m.before.before.before.before.before.before.before.before).args.out.now) text;
       }),
-      sound m,
+      sound m.before.before.before.before.before.before.before.before,
     )
 
 pub print_pixels_spec : {M : Type 1} → statement M
