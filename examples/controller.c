@@ -23,7 +23,7 @@ enum { LINE = 13, HEADER_FIELD = 6, PIXEL_FIELD = 4 };
  * says so from these bytes alone. */
 #define TEXT_BYTES (KISTROVU_MOST_TEXT + 1)
 
-/* The buffers have a fixed size and are not on the stack, of which a call takes up to 304 KB. */
+/* The buffers have a fixed size and are not on the stack, of which a call takes up to 409 KB. */
 static uint8_t text[TEXT_BYTES];
 static uint8_t pixels[3 * KISTROVU_MOST_SWATCH_PIXELS];
 static uint16_t labels[KISTROVU_MOST_SWATCH_PIXELS];
@@ -32,7 +32,7 @@ static uint16_t labels[KISTROVU_MOST_SWATCH_PIXELS];
 static const char *const sentences[] = {
     [KISTROVU_SERVED] = "served",
     [KISTROVU_HEADER] = "the first line of the swatch is not a header of two fields",
-    [KISTROVU_SIZE] = "the width times the height is 0 or above 16,384, or, for an image that comes with them, three times this product is not the number of its bytes",
+    [KISTROVU_SIZE] = "the width times the height is 0 or above 16,384",
     [KISTROVU_LINES] = "a pixel line is not three numbers from 0 to 255, or there are fewer or more lines than pixels",
     [KISTROVU_BYTES] = "there are no pixel bytes, or their number is not a multiple of 3",
     [KISTROVU_PIXELS] = "the image has more than 65,536 pixels",
@@ -92,14 +92,12 @@ static void write_labels(size_t width, size_t count)
 /* Labels each pixel of a served text with the number of its entry, and writes a line of labels for each row. */
 static int label_rows(const struct kistrovu_printed *printed)
 {
-    uint32_t width = field(text, HEADER_FIELD);
-    uint32_t height = field(text + HEADER_FIELD, HEADER_FIELD);
-    size_t count = (size_t)width * height;
+    size_t width = field(text, HEADER_FIELD);
+    size_t count = width * field(text + HEADER_FIELD, HEADER_FIELD);
     read_pixels(count);
 
-    /* Closeness 0 is that of the printed card, so both have the same entries. The last length counts labels, not bytes. An
-     * image of more than 16,384 pixels, which no swatch is, would need kistrovu_card. */
-    struct kistrovu_card card = kistrovu_card_sized(pixels, 3 * count, width, height, 0, labels, count);
+    /* Closeness 0 is that of the printed card, so both have the same entries. The last length counts labels, not bytes. */
+    struct kistrovu_card card = kistrovu_card(pixels, 3 * count, 0, labels, count);
     if (card.number != KISTROVU_SERVED)
         return complain((int)card.number, "turned down", sentences[card.number]);
     if (card.len != field(printed->bytes, HEADER_FIELD))

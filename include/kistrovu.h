@@ -38,9 +38,9 @@
  *         return 1;
  *
  * No call uses the heap, keeps state or touches anything but its arguments, so calls may run on many threads at once.
- * Stack, as measured: kistrovu_card takes up to 419 KB, kistrovu_card_sized up to 173 KB, kistrovu_print_card up to 304 KB;
- * every other call takes less than 20 KB. That is without the answer, which is handed back by value, in memory of the caller;
- * its size is given below. Give a thread that makes cards 1 MB.
+ * Stack, as measured: kistrovu_card takes up to 409 KB, kistrovu_print_card up to 262 KB; every other call takes less
+ * than 20 KB. That is without the answer, which is handed back by value, in memory of the caller; its size is given below.
+ * Give a thread that makes cards 1 MB.
  *
  * In C++ a call hides the struct of the same name, so write `struct kistrovu_card card`, as in C.
  *
@@ -62,7 +62,7 @@ extern "C" {
  * another release. Major: a declaration, a number or a figure's meaning changed. Minor: something was added. */
 
 #define KISTROVU_VERSION_MAJOR 6
-#define KISTROVU_VERSION_MINOR 1
+#define KISTROVU_VERSION_MINOR 0
 #define KISTROVU_VERSION_PATCH 0
 #define KISTROVU_VERSION (10000 * KISTROVU_VERSION_MAJOR + 100 * KISTROVU_VERSION_MINOR + KISTROVU_VERSION_PATCH)
 
@@ -72,7 +72,7 @@ uint32_t kistrovu_version(void);
 enum kistrovu_ground {
     KISTROVU_SERVED = 0,
     KISTROVU_HEADER = 1,       /* the first line of the swatch is not a header of two fields */
-    KISTROVU_SIZE = 2,         /* the width times the height is 0 or above 16,384, or, for an image that comes with them, three times this product is not the number of its bytes */
+    KISTROVU_SIZE = 2,         /* the width times the height is 0 or above 16,384 */
     KISTROVU_LINES = 3,        /* a pixel line is not three numbers from 0 to 255, or there are fewer or more lines than pixels */
     KISTROVU_BYTES = 4,        /* there are no pixel bytes, or their number is not a multiple of 3 */
     KISTROVU_PIXELS = 5,       /* the image has more than 65,536 pixels */
@@ -258,40 +258,6 @@ struct kistrovu_card { /* 12,008 bytes */
 };
 
 struct kistrovu_card kistrovu_card(const uint8_t *pixels, size_t bytes, int32_t closeness, uint16_t *labels, size_t places);
-
-/* ---- the card of an image of a given width and height. Grounds 2, 4, 5, 8, 9, 11
- * The pixels are row by row, each row from the left, and so are the labels. The size is tested first, and exactly: no product
- * wraps, whatever the two numbers are. A call that does not get 2 gets neither 4 nor 5: its answer and its labels are those
- * of kistrovu_card, whether it is served or turned down. For example, two rows of three pixels:
- *
- *     const uint8_t rows[] = {0, 0, 0, 255, 0, 0, 255, 0, 0,
- *                             0, 0, 0, 0, 0, 0, 255, 0, 0};
- *     uint16_t labels[6];
- *     struct kistrovu_card card = kistrovu_card_sized(rows, sizeof rows, 3, 2, 0, labels, 6);
- *     if (card.number != KISTROVU_SERVED)
- *         return (int)card.number;
- *     for (int i = 0; i < 6; i++)
- *         printf("%u%c", (unsigned)labels[i], i < 5 ? ' ' : '\n');
- *
- * prints `0 1 1 0 0 1`.
- *
- * This call serves at most KISTROVU_MOST_SWATCH_PIXELS pixels, a quarter of what kistrovu_card does: an image of 256 x 256
- * pixels gets a card there and 2 here, though its bytes are as many as they should be. Make the card of a larger image with
- * kistrovu_card, or sample the image down first, for example to every other pixel of every other row. Do not average
- * pixels: the average of two yarns is a colour that neither has.
- *
- * Where the limit allows it, this is the call to prefer:
- *
- *   - It checks that the bytes are as many as those of the image that the caller means. If a row is missing, or the buffer
- *     has another size, kistrovu_card makes a card of whatever is there; this call is turned down. It cannot know which of
- *     the two numbers is the width: the other way round they give the same card.
- *   - It needs a quarter of the scratch on the stack.
- *   - It adds up the colours of an entry, of which the means are taken, one column after the other from the left, the order
- *     in which the newer scanners deliver an image. The sums are exact, so the means do not depend on it.
- *   - The program card and kistrovu_print_card make their cards in the same way. */
-
-struct kistrovu_card kistrovu_card_sized(const uint8_t *pixels, size_t bytes, uint32_t width, uint32_t height,
-                                         int32_t closeness, uint16_t *labels, size_t places);
 
 /* ---- labels of one byte, widened. Ground 9
  * Up to version 5 a label was one byte, and lists of such labels may have been stored. This call reads such a list into

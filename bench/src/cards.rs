@@ -1,14 +1,11 @@
-//! Cards of noisy cloths: the engine against the Rust program, its two calls against each other, and other programs that
-//! reduce colours.
+//! Cards of noisy cloths: the engine against the Rust program, and other programs that reduce colours.
 
 use crate::fast_cards::{self, Scratch};
-use crate::{imagequant, medians, others, print, print_heading, CLOSENESS};
+use crate::{imagequant, medians, others, print, CLOSENESS};
 use cloths::random::Random;
 use cloths::swatch::Swatch;
 use cloths::yarns::{woven, yarns};
 use engine::IntoRaw;
-use kistrovu::raw::MOST_SWATCH_PIXELS;
-use kistrovu::{card_into, card_sized_into, Entries, Ground};
 use reference::calls::CardAnswer;
 use std::hint::black_box;
 use std::process::ExitCode;
@@ -71,33 +68,6 @@ impl Kind {
     }
 }
 
-impl Cloth {
-    /// Whether the call that is told width and height serves it too.
-    fn is_small(&self) -> bool {
-        self.swatch.pixels.len() <= MOST_SWATCH_PIXELS
-    }
-
-    /// By that call.
-    fn sized_card(
-        &self,
-        bytes: &[u8],
-        closeness: i32,
-        labels: &mut [u16],
-    ) -> Result<Entries, Ground> {
-        let [width, height] = [self.swatch.width, self.swatch.height].map(|side| side as u32);
-        card_sized_into(bytes, width, height, closeness, labels)
-    }
-
-    /// Whether both calls give one card and the same labels.
-    fn has_one_card(&self, closeness: i32) -> bool {
-        let bytes = self.swatch.bytes();
-        let mut labels = [(); 2].map(|_| vec![0; self.swatch.pixels.len()]);
-        let plain = card_into(&bytes, closeness, &mut labels[0]);
-        let sized = self.sized_card(&bytes, closeness, &mut labels[1]);
-        plain.is_ok() && plain == sized && labels[0] == labels[1]
-    }
-}
-
 /// Several closenesses, though only one is timed.
 pub fn wrong(cloth: &Cloth) -> Option<String> {
     let bytes = cloth.swatch.bytes();
@@ -113,9 +83,6 @@ pub fn wrong(cloth: &Cloth) -> Option<String> {
         if answer != expected.into_raw() || engine_labels != labels {
             return Some(format!("engine's card of {}", cloth.name));
         }
-        if cloth.is_small() && !cloth.has_one_card(closeness) {
-            return Some(format!("engine's sized card of {}", cloth.name));
-        }
     }
     None
 }
@@ -126,8 +93,7 @@ fn fast_card(bytes: &[u8], closeness: i32) -> (CardAnswer, Vec<u16>) {
     (answer, labels)
 }
 
-/// Makes the card of one cloth with the engine, by both of its calls if both serve it, and with the Rust program, and prints
-/// the cloth's name.
+/// Makes the card of one cloth with the engine and with the Rust program, and prints the cloth's name.
 pub fn once(number: &str) -> ExitCode {
     let cloths = cloths();
     let number = number.parse::<usize>().unwrap_or(0);
@@ -138,9 +104,6 @@ pub fn once(number: &str) -> ExitCode {
     let mut bytes = cloth.swatch.bytes();
     let mut labels = vec![0; cloth.swatch.pixels.len()];
     black_box(engine::card(&mut bytes, CLOSENESS, &mut labels));
-    if cloth.is_small() {
-        black_box(cloth.sized_card(&bytes, CLOSENESS, &mut labels).is_ok());
-    }
     black_box(fast_card(&bytes, CLOSENESS));
     println!("{}", cloth.name);
     ExitCode::SUCCESS
@@ -155,28 +118,6 @@ pub fn time(cloths: &[Cloth]) {
             others::time(&cloth.name, &cloth.swatch, entries, engine);
         }
     }
-    print_heading(["sized, ns", "plain, ns"]);
-    for cloth in cloths.iter().filter(|cloth| cloth.is_small()) {
-        time_sized_card(cloth);
-    }
-}
-
-/// The call that is told width and height against the one that is not, both through the same wrapper.
-fn time_sized_card(cloth: &Cloth) {
-    let bytes = cloth.swatch.bytes();
-    let mut labels = [(); 2].map(|_| vec![0; cloth.swatch.pixels.len()]);
-    let [first, second] = &mut labels;
-    let times = medians(
-        || {
-            let made = cloth.sized_card(black_box(&bytes), CLOSENESS, first);
-            black_box(&made);
-        },
-        || {
-            let made = card_into(black_box(&bytes), CLOSENESS, second);
-            black_box(&made);
-        },
-    );
-    print("card", &cloth.name, times, "");
 }
 
 /// The engine's time is handed back.

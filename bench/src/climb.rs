@@ -207,7 +207,7 @@ fn report(line: Vec<u32>) -> ExitCode {
         eprintln!("not timed, wrong: the separators of the two differ");
         return ExitCode::FAILURE;
     }
-    print_heading(["engine, ns", "Rust, ns"]);
+    print_heading();
     time_line(cases::Case {
         name: "256 bins, found",
         histogram: line,

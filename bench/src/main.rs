@@ -1,5 +1,4 @@
-//! Times the engine, through its static library, against a Rust program written for speed (`fast.rs`), and its two card calls
-//! against each other, in one run.
+//! Times the engine, through its static library, against a Rust program written for speed (`fast.rs`), in one run.
 //!
 //! In `bench/`, after `tools/library` at the repository's root:
 //!
@@ -71,7 +70,7 @@ fn main() -> ExitCode {
         eprintln!("not timed, wrong: {}", wrong.join("; "));
         return ExitCode::FAILURE;
     }
-    print_heading(["engine, ns", "Rust, ns"]);
+    print_heading();
     for case in fits {
         time_fit(case);
     }
@@ -246,13 +245,16 @@ fn per_call(calls: u32, call: &mut impl FnMut()) -> f64 {
     start.elapsed().as_nanos() as f64 / f64::from(calls)
 }
 
-pub fn print_heading([first, second]: [&str; 2]) {
-    println!("{:NAME_WIDTH$} {first:>12} {second:>12} {:>7}", "", "ratio");
+fn print_heading() {
+    println!(
+        "{:NAME_WIDTH$} {:>12} {:>12} {:>7}",
+        "", "engine, ns", "Rust, ns", "ratio"
+    );
 }
 
-pub fn print(call: &str, name: &str, [first, second, ratio]: [f64; 3], share: &str) {
+pub fn print(call: &str, name: &str, [engine, fast, ratio]: [f64; 3], share: &str) {
     println!(
-        "{:NAME_WIDTH$} {first:12.0} {second:12.0} {ratio:7.2}  {share}",
+        "{:NAME_WIDTH$} {engine:12.0} {fast:12.0} {ratio:7.2}  {share}",
         format!("{call}, {name}")
     );
 }

@@ -1,12 +1,11 @@
 /*
- * Lends the card calls and the widening of labels lists that end where nothing may be touched; what they are to read may only
+ * Lends the card call and the widening of labels lists that end where nothing may be touched; what they are to read may only
  * be read. Says which checks fail, and then has exit status 1.
  *
  *     lent_labels FOLDER    the stored swatches, of which those named by their entries are read
  */
 #define _DEFAULT_SOURCE
 #include "guarded.h"
-#include <inttypes.h>
 
 /* The most labels that the pages have room for: more than an image can have. */
 #define MOST_LABELS (ROOM / sizeof(uint16_t))
@@ -14,8 +13,6 @@
 #define MOST_NARROW 255
 
 static uint8_t *pixels_end, *narrow_end, *labels_end;
-/* Those of the image that was read. */
-static uint32_t width, height;
 
 /* So many labels, unused, that end where their pages do. */
 static uint16_t *fresh_labels(size_t places)
@@ -34,10 +31,10 @@ static bool untouched_before(size_t places)
 static size_t read_pixels(const char *folder, size_t entries)
 {
     char name[4096];
-    unsigned level = 0;
+    unsigned width = 0, height = 0, level = 0;
     snprintf(name, sizeof name, "%s/%zu-entries.txt", folder, entries);
     FILE *file = fopen(name, "r");
-    if (file == NULL || fscanf(file, "%" SCNu32 " %" SCNu32, &width, &height) != 2) {
+    if (file == NULL || fscanf(file, "%u %u", &width, &height) != 2) {
         perror(name);
         exit(2);
     }
@@ -50,18 +47,10 @@ static size_t read_pixels(const char *folder, size_t entries)
     return bytes / 3;
 }
 
-static struct kistrovu_card plain_card(size_t count, uint16_t *labels, size_t places)
+static struct kistrovu_card make_card(size_t count, uint16_t *labels, size_t places)
 {
     return kistrovu_card(pixels_end - 3 * count, 3 * count, 0, labels, places);
 }
-
-static struct kistrovu_card sized_card(size_t count, uint16_t *labels, size_t places)
-{
-    return kistrovu_card_sized(pixels_end - 3 * count, 3 * count, width, height, 0, labels, places);
-}
-
-/* The call that is being tried. */
-static struct kistrovu_card (*make_card)(size_t count, uint16_t *labels, size_t places);
 
 /* Every other number of places gets 9; twice the number of pixels is what `sizeof labels` gives. */
 static void refuse_places(size_t count)
@@ -124,7 +113,7 @@ static void widen_stored(const uint16_t *labels, size_t count)
 static void try_card(const char *folder, size_t entries)
 {
     char name[32];
-    snprintf(name, sizeof name, "%zu entries%s", entries, make_card == sized_card ? ", sized" : "");
+    snprintf(name, sizeof name, "%zu entries", entries);
     tried = name;
     size_t count = read_pixels(folder, entries);
     refuse_places(count);
@@ -173,12 +162,8 @@ int main(int count, char **arguments)
     pixels_end = guarded_end();
     narrow_end = guarded_end();
     labels_end = guarded_end();
-    for (size_t i = 0; i < sizeof entries / sizeof *entries; i++) {
-        make_card = plain_card;
+    for (size_t i = 0; i < sizeof entries / sizeof *entries; i++)
         try_card(arguments[1], entries[i]);
-        make_card = sized_card;
-        try_card(arguments[1], entries[i]);
-    }
     for (size_t i = 0; i < sizeof lengths / sizeof *lengths; i++)
         try_widening(lengths[i]);
     return failures != 0;

@@ -1,7 +1,7 @@
 /*
- * Prints how many bytes of stack the calls take, a name and a number to a line: `card`, `sized`, `text`, and `other` for the
- * largest of the rest. Each call is made in a thread whose stack has been filled with one byte. What a thread that calls nothing
- * has overwritten is taken off, and so is the answer, which is the caller's and stands on the caller's stack here.
+ * Prints how many bytes of stack the calls take, a name and a number to a line: `card`, `text`, and `other` for the largest of the
+ * rest. Each call is made in a thread whose stack has been filled with one byte. What a thread that calls nothing has overwritten
+ * is taken off, and so is the answer, which is the caller's and stands on the caller's stack here.
  *
  *     stack SWATCH    a swatch with several modes at each level, so that every kind of test is made
  */
@@ -38,13 +38,6 @@ static void *nothing(void *argument) { return argument; }
 
 static void *make_card(void *argument) {
     struct kistrovu_card card = kistrovu_card(pixels, sizeof pixels, 0, labels, KISTROVU_MOST_PIXELS);
-    expect_served(card.number);
-    return argument;
-}
-
-static void *make_sized_card(void *argument) {
-    struct kistrovu_card card = kistrovu_card_sized(pixels, 3 * KISTROVU_MOST_SWATCH_PIXELS, 128, 128, 0, labels,
-                                                    KISTROVU_MOST_SWATCH_PIXELS);
     expect_served(card.number);
     return argument;
 }
@@ -151,7 +144,6 @@ int main(int count, char **arguments) {
     }
     fill(arguments[1]);
     printf("card %zu\n", taken(make_card, sizeof(struct kistrovu_card)));
-    printf("sized %zu\n", taken(make_sized_card, sizeof(struct kistrovu_card)));
     printf("text %zu\n", taken(print_card, sizeof(struct kistrovu_printed)));
     other = taken(find_modes, 0);
     other = larger(other, taken(widen_labels, 0));

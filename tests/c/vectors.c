@@ -16,7 +16,7 @@
 #include <stdlib.h>
 #include <string.h>
 
-enum { FORMAT = 2, MOST_FIELDS = 9, MOST_NAME = 16, MOST_PATH = 4096, ENTRY = 8, MEASURED = 8, GUARD = 64, GUARD_BYTE = 0xa5 };
+enum { FORMAT = 2, MOST_FIELDS = 8, MOST_NAME = 16, MOST_PATH = 4096, ENTRY = 8, MEASURED = 8, GUARD = 64, GUARD_BYTE = 0xa5 };
 
 /* A name with all its values. Texts are lists of bytes. */
 struct field {
@@ -563,58 +563,25 @@ static bool same_entries(const struct reader *reader, const struct field *kept, 
     return true;
 }
 
-/* What a card call is lent: pixels for reading, labels for writing. */
-struct image {
-    const struct field *pixels, *labels;
-    uint8_t *bytes;
-    uint16_t *places;
-    struct lent lent;
-};
-
-static void lend_image(const struct reader *reader, size_t labels_place, struct image *image)
-{
-    image->pixels = field_at(reader, 0, "pixels");
-    image->labels = field_at(reader, labels_place, "labels");
-    image->bytes = bytes_of(image->pixels, allocate(image->pixels->count));
-    image->places = labels_of(image->labels, lend(&image->lent, image->labels->count * sizeof *image->places));
-}
-
-/* The four figures of a card from a place on, and the image as it was left, which is taken back. */
-static bool same_card(const struct reader *reader, size_t place, struct image *image, const struct kistrovu_card *found)
-{
-    size_t figures = ENTRY * (size_t)found->len, labels = image->labels->count;
-    bool hold = same_value(reader, place, "number", found->number)
-        && same_value(reader, place + 1, "len", found->len)
-        && same_entries(reader, list_of(reader, place + 2, "entry", figures), found)
-        && same_labels(reader, list_of(reader, place + 3, "labels_after", labels), image->places, labels)
-        && same_bytes(reader, image->pixels, image->bytes, image->pixels->count);
-    hold &= take_back(reader, &image->lent);
-    free(image->bytes);
-    return hold;
-}
-
 static bool card_holds(const struct reader *reader, size_t *cases)
 {
-    struct image image;
-    lend_image(reader, 2, &image);
+    const struct field *pixels = field_at(reader, 0, "pixels");
     int32_t closeness = (int32_t)value_at(reader, 1, "closeness");
-    struct kistrovu_card found =
-        kistrovu_card(image.bytes, image.pixels->count, closeness, image.places, image.labels->count);
+    const struct field *labels = field_at(reader, 2, "labels");
+    uint8_t *bytes = bytes_of(pixels, allocate(pixels->count));
+    struct lent lent;
+    uint16_t *places = labels_of(labels, lend(&lent, labels->count * sizeof *places));
+    struct kistrovu_card found = kistrovu_card(bytes, pixels->count, closeness, places, labels->count);
+    size_t figures = ENTRY * (size_t)found.len;
+    bool hold = same_value(reader, 3, "number", found.number)
+        && same_value(reader, 4, "len", found.len)
+        && same_entries(reader, list_of(reader, 5, "entry", figures), &found)
+        && same_labels(reader, list_of(reader, 6, "labels_after", labels->count), places, labels->count)
+        && same_bytes(reader, pixels, bytes, pixels->count);
+    hold &= take_back(reader, &lent);
+    free(bytes);
     (*cases)++;
-    return same_card(reader, 3, &image, &found);
-}
-
-static bool card_sized_holds(const struct reader *reader, size_t *cases)
-{
-    struct image image;
-    lend_image(reader, 4, &image);
-    uint32_t width = (uint32_t)value_at(reader, 1, "width");
-    uint32_t height = (uint32_t)value_at(reader, 2, "height");
-    int32_t closeness = (int32_t)value_at(reader, 3, "closeness");
-    struct kistrovu_card found = kistrovu_card_sized(image.bytes, image.pixels->count, width, height, closeness,
-                                                     image.places, image.labels->count);
-    (*cases)++;
-    return same_card(reader, 5, &image, &found);
+    return hold;
 }
 
 /* The labels of one byte are lent for reading, the others for writing. */
@@ -713,7 +680,6 @@ static const struct {
     {"join_log", join_log_holds, 6},
     {"replay", replay_holds, 7},
     {"card", card_holds, 7},
-    {"card_sized", card_sized_holds, 9},
     {"widen_labels", widen_labels_holds, 4},
     {"print_card", print_card_holds, 4},
     {"print_ground", print_ground_holds, 4},

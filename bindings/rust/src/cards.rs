@@ -111,65 +111,10 @@ pub struct Card {
 /// ```
 #[cfg(feature = "alloc")]
 pub fn card(pixels: &[u8], closeness: i32) -> Result<Card, Ground> {
-    labelled(pixels, |labels| card_into(pixels, closeness, labels))
-}
-
-/// The card of an image of this width and height, its pixels row by row, each row from the left: the card that [`card`]
-/// gives for the same pixels, and the same labels, row by row too.
-///
-/// Use it where you know both. It makes sure that there are as many bytes as such an image has; if the two numbers are the
-/// other way round, the card is the same. It needs less stack than [`card`]. The colours of an entry, of which the means
-/// are taken, are added up one column after the other from the left, as the newer scanners deliver them.
-/// [`print_card`](crate::print_card) and the program make their cards in the same way.
-///
-/// It serves at most 16,384 pixels ([`MOST_SWATCH_PIXELS`](raw::MOST_SWATCH_PIXELS)). An image of 256 × 256 gets
-/// [`Size`](Ground::Size) here and a card from [`card`]: use that for a larger image, or sample it down. Grounds:
-/// [`Size`](Ground::Size); [`Bytes`](Ground::Bytes) and [`Pixels`](Ground::Pixels), which never hold where it does not;
-/// [`Closeness`](Ground::Closeness), [`Entries`](Ground::Entries).
-///
-/// ```
-/// # use kistrovu::{card, card_sized, Ground};
-/// // Two rows of three pixels, black and red.
-/// let rows = [[0, 0, 0, 255, 0, 0, 255, 0, 0], [0, 0, 0, 0, 0, 0, 255, 0, 0]].concat();
-/// let made = card_sized(&rows, 3, 2, 0)?;
-/// assert_eq!(made.labels, [0, 1, 1, 0, 0, 1]);
-/// assert_eq!(Ok(made), card(&rows, 0));
-///
-/// assert_eq!(card_sized(&rows, 3, 1, 0), Err(Ground::Size)); // a row more than there should be
-/// assert_eq!(card_sized(&rows[..17], 3, 2, 0), Err(Ground::Size)); // a byte is missing
-/// assert_eq!(card_sized(&[], 0, 2, 0), Err(Ground::Size));
-/// assert_eq!(card_sized(&rows, 3, 2, 21), Err(Ground::Closeness));
-///
-/// // 256 × 256 pixels, and every other one of every other row.
-/// let large: Vec<u8> = (0..65_536).flat_map(|place| [[200, 0, 0], [0, 0, 150]][place / 7 % 2]).collect();
-/// assert_eq!(card_sized(&large, 256, 256, 0), Err(Ground::Size));
-/// assert_eq!(card(&large, 0)?.entries.len(), 2);
-/// let row = |row: usize| large.chunks(3).skip(256 * row).take(256).step_by(2);
-/// let sampled: Vec<u8> = (0..256).step_by(2).flat_map(row).flatten().copied().collect();
-/// assert_eq!(card_sized(&sampled, 128, 128, 0)?.entries.len(), 2);
-///
-/// // As in the example of `card`, 9 pixels of each colour or more.
-/// # let levels = |place: u32| [place % 12, place / 12 % 12, place / 144 % 12].map(|level| 23 * level as u8);
-/// let cube: Vec<u8> = (0..16_384).flat_map(levels).collect();
-/// assert_eq!(card_sized(&cube, 128, 128, 0), Err(Ground::Entries));
-/// # Ok::<(), Ground>(())
-/// ```
-#[cfg(feature = "alloc")]
-pub fn card_sized(pixels: &[u8], width: u32, height: u32, closeness: i32) -> Result<Card, Ground> {
-    labelled(pixels, |labels| {
-        card_sized_into(pixels, width, height, closeness, labels)
-    })
-}
-
-/// There is a label for each pixel, so `Labels` is never the ground. There are no more labels than a served call can have:
-/// `Size` and `Pixels` are tested earlier.
-#[cfg(feature = "alloc")]
-fn labelled(
-    pixels: &[u8],
-    make: impl FnOnce(&mut [u16]) -> Result<Entries, Ground>,
-) -> Result<Card, Ground> {
+    // There is a label for each pixel, so `Labels` is never the ground. There are no more labels than a served call can
+    // have: `Pixels` is tested earlier.
     let mut labels = vec![0; raw::MOST_PIXELS.min(pixels.len() / 3)];
-    let entries = make(&mut labels)?.to_vec();
+    let entries = card_into(pixels, closeness, &mut labels)?.to_vec();
     Ok(Card { entries, labels })
 }
 
@@ -207,47 +152,6 @@ pub fn card_into(pixels: &[u8], closeness: i32, labels: &mut [u16]) -> Result<En
     // SAFETY: each pointer and its length are those of one slice, lent for the time of the call; the two slices do not
     // overlap, and the pointer of an empty slice is not null.
     let answer = unsafe { raw::kistrovu_card(start, bytes, closeness, list, places) };
-    read(&answer)
-}
-
-/// Like [`card_sized`], without a heap: the labels are written into a list with a place for each pixel. They stay as they
-/// were if the call is turned down. Grounds: those of [`card_sized`], and [`Labels`](Ground::Labels) before
-/// [`Entries`](Ground::Entries).
-///
-/// ```
-/// # use kistrovu::{card_sized_into, Ground};
-/// let black_above_red = [0, 0, 0, 255, 0, 0];
-/// let mut labels = [99; 2];
-/// let entries = card_sized_into(&black_above_red, 1, 2, 0, &mut labels)?;
-/// assert_eq!((entries.len(), entries[1].red), (2, 255));
-/// assert_eq!(labels, [0, 1]);
-///
-/// let mut labels = [99; 4];
-/// assert_eq!(card_sized_into(&black_above_red, 2, 2, 0, &mut labels), Err(Ground::Size));
-/// assert_eq!(card_sized_into(&black_above_red, 1, 2, 21, &mut labels), Err(Ground::Closeness));
-/// assert_eq!(card_sized_into(&black_above_red, 1, 2, 0, &mut labels), Err(Ground::Labels));
-/// assert_eq!(labels, [99; 4]);
-///
-/// // As in the example of `card_sized`.
-/// # let levels = |place: u32| [place % 12, place / 12 % 12, place / 144 % 12].map(|level| 23 * level as u8);
-/// let cube: Vec<u8> = (0..16_384).flat_map(levels).collect();
-/// let mut labels = vec![99; 16_384];
-/// assert_eq!(card_sized_into(&cube, 128, 128, 0, &mut labels), Err(Ground::Entries));
-/// assert_eq!(labels, [99; 16_384]);
-/// # Ok::<(), Ground>(())
-/// ```
-pub fn card_sized_into(
-    pixels: &[u8],
-    width: u32,
-    height: u32,
-    closeness: i32,
-    labels: &mut [u16],
-) -> Result<Entries, Ground> {
-    let (start, bytes) = (pixels.as_ptr(), pixels.len());
-    let (list, places) = (labels.as_mut_ptr(), labels.len());
-    // SAFETY: as in `card_into`.
-    let answer =
-        unsafe { raw::kistrovu_card_sized(start, bytes, width, height, closeness, list, places) };
     read(&answer)
 }
 

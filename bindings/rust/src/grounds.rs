@@ -56,7 +56,7 @@ macro_rules! grounds {
 
 grounds! {
     Header = 1: "The first line of the swatch is not a header of two fields.",
-    Size = 2: "The width times the height is 0 or above 16,384, or, for an image that comes with them, three times this product is not the number of its bytes.",
+    Size = 2: "The width times the height is 0 or above 16,384.",
     Lines = 3: "A pixel line is not three numbers from 0 to 255, or there are fewer or more lines than pixels.",
     Bytes = 4: "There are no pixel bytes, or their number is not a multiple of 3.",
     Pixels = 5: "The image has more than 65,536 pixels.",

@@ -28,13 +28,12 @@
 //! | [`join_log`], [`join_log_into`] | how a line came to its modes: a record of each join | 6, 7, 8; into a log also 10 |
 //! | [`replay`], [`replay_into`] | the modes of a line by a log of its joins | 6, 7, 8, 20; into a list also 10 |
 //! | [`card`], [`card_into`] | the card of an image and the label of each pixel | 4, 5, 8, 11; into labels also 9 |
-//! | [`card_sized`], [`card_sized_into`] | the same of an image whose width and height are given | 2, 4, 5, 8, 11; into labels also 9 |
 //! | [`widen_labels`], [`widen_labels_into`] | labels of one byte, as up to version 5, as labels of 16 bits | none; into labels 9 |
 //! | [`print_card`] | the text of the card of a swatch that is given as text | 1, 2, 3, 11 |
 //! | [`print_ground`] | the line that the card program prints for a swatch that is turned down | none |
 //! | [`version`] | the version of the library | none |
 //!
-//! A *swatch* is the scan of a piece of cloth: the program reads it as text, and the card calls take its pixels. The
+//! A *swatch* is the scan of a piece of cloth: the program reads it as text, and the card call takes its pixels. The
 //! *closeness* e, [`LEAST_CLOSENESS`](raw::LEAST_CLOSENESS) to [`MOST_CLOSENESS`](raw::MOST_CLOSENESS), says how much
 //! evidence it takes to keep two modes apart: one more raises the bar of the test by one bit. A larger closeness
 //! gives fewer entries as a rule, a smaller one is looser and gives more. The bar of a stretch of L bins is
@@ -45,13 +44,13 @@
 //! # Stack, heap and threads
 //!
 //! The engine keeps everything on the stack, and hands its answers back by value. Whatever the image, a thread of 512 KB
-//! is enough for [`card`], one of 256 KB for [`card_sized`], one of 448 KB for [`print_card`], one of 192 KB for
-//! [`print_ground`], and one of 64 KB for every other call. **Give a thread that makes cards 1 MB.** Threads of the standard
-//! library have 2 MB by default. The engine keeps no state, so calls may run on many threads at once.
+//! is enough for [`card`], one of 448 KB for [`print_card`], one of 192 KB for [`print_ground`], and one of 64 KB for every
+//! other call. **Give a thread that makes cards 1 MB.** Threads of the standard library have 2 MB by default. The engine
+//! keeps no state, so calls may run on many threads at once.
 //!
-//! Only the calls that hand back a `Vec` ([`card`], [`card_sized`], [`widen_labels`], [`line_modes`], [`ring_modes`],
-//! [`join_log`], [`replay`]) use the heap; without the feature `alloc`, which is on by default, they are left out. The crate
-//! does not need the standard library.
+//! Only the calls that hand back a `Vec` ([`card`], [`widen_labels`], [`line_modes`], [`ring_modes`], [`join_log`],
+//! [`replay`]) use the heap; without the feature `alloc`, which is on by default, they are left out. The crate does not
+//! need the standard library.
 //!
 //! # What is proved, and what is not
 //!
@@ -81,8 +80,8 @@ mod texts;
 mod versions;
 
 #[cfg(feature = "alloc")]
-pub use cards::{card, card_sized, Card};
-pub use cards::{card_into, card_sized_into, Entries, Entry, Kind};
+pub use cards::{card, Card};
+pub use cards::{card_into, Entries, Entry, Kind};
 pub use grounds::Ground;
 pub use histograms::{fit, verdict, Block, Direction, Fit, Verdict};
 #[cfg(feature = "alloc")]

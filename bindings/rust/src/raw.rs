@@ -17,8 +17,6 @@ pub const MOST_BINS: usize = 256;
 pub const RECORD_NUMBERS: usize = 4;
 /// The most pixels of an image, and the most that a histogram's counts may sum to.
 pub const MOST_PIXELS: usize = 65_536;
-/// The most pixels of an image whose width and height are given, and of a swatch as text.
-pub const MOST_SWATCH_PIXELS: usize = 16_384;
 /// The least closeness.
 pub const LEAST_CLOSENESS: i32 = -10;
 /// The largest closeness.
@@ -141,11 +139,11 @@ pub struct Entry {
     pub count: u32,
 }
 
-/// What [`kistrovu_card`] and [`kistrovu_card_sized`] hand back.
+/// What [`kistrovu_card`] hands back.
 #[repr(C)]
 #[derive(Clone, Copy, Debug, PartialEq, Eq)]
 pub struct Card {
-    /// 0, 4, 5, 8, 9 or 11; with width and height 0, 2, 8, 9 or 11.
+    /// 0, 4, 5, 8, 9 or 11.
     pub number: u32,
     /// How many entries there are.
     pub len: u32,
@@ -239,18 +237,6 @@ extern "C" {
     pub fn kistrovu_card(
         pixels: *const u8,
         bytes: usize,
-        closeness: i32,
-        labels: *mut u16,
-        places: usize,
-    ) -> Card;
-
-    /// The same of an image of this width and height, pixels and labels row by row, and of at most
-    /// [`MOST_SWATCH_PIXELS`]. Grounds 2, 4, 5, 8, 9, 11.
-    pub fn kistrovu_card_sized(
-        pixels: *const u8,
-        bytes: usize,
-        width: u32,
-        height: u32,
         closeness: i32,
         labels: *mut u16,
         places: usize,

@@ -21,23 +21,15 @@ fn of_the_header() -> BTreeMap<u32, String> {
     rows.filter(|(number, _)| *number != 0).collect()
 }
 
-/// The first sentences of the rules, in lines as `- **G8** The closeness is below -10 or above 20.`, each with the case that
-/// a second one may add.
+/// The first sentences of the rules, in lines as `- **G8** The closeness is below -10 or above 20.`
 fn of_the_rules() -> BTreeMap<u32, String> {
     let rules = file("docs/METHOD.md");
     let rows = rules.lines().filter_map(|line| {
         let (number, words) = line.strip_prefix("- **G")?.split_once("** ")?;
-        let (sentence, more) = words.split_once('.')?;
-        let added = added(more).unwrap_or(".".to_string());
-        Some((number.parse().ok()?, format!("{sentence}{added}")))
+        let sentence = words.split_once('.')?.0;
+        Some((number.parse().ok()?, format!("{sentence}.")))
     });
     rows.collect()
-}
-
-/// ` For some: or something.` as the end of the sentence before it.
-fn added(more: &str) -> Option<String> {
-    let (whom, case) = more.strip_prefix(" For ")?.split_once(": or ")?;
-    Some(format!(", or, for {whom}, {case}"))
 }
 
 fn listed<T: ToString>(what: impl Fn(&Ground) -> T) -> BTreeMap<u32, String> {
@@ -98,8 +90,6 @@ fn limits_are_the_headers() {
     };
     assert_eq!(defined("MOST_BINS"), raw::MOST_BINS);
     assert_eq!(defined("RECORD_NUMBERS"), raw::RECORD_NUMBERS);
-    assert_eq!(defined("MOST_PIXELS"), raw::MOST_PIXELS);
-    assert_eq!(defined("MOST_SWATCH_PIXELS"), raw::MOST_SWATCH_PIXELS);
     assert_eq!(defined("MOST_ENTRIES"), raw::MOST_ENTRIES);
     assert_eq!(defined("MOST_PRINTED"), raw::MOST_PRINTED);
 }

@@ -4,7 +4,7 @@
 
 mod common;
 
-use common::{cube, examples, file, of_entries, pixels, unused_labels, ENTRIES};
+use common::{cube, examples, file, of_entries, pixels, ENTRIES};
 use kistrovu::raw::{LEAST_CLOSENESS, MOST_BINS, MOST_CLOSENESS, MOST_ENTRIES, MOST_PIXELS};
 use kistrovu::*;
 use std::fmt::Debug;
@@ -165,6 +165,12 @@ fn limits_are_served() {
         assert!(verdict(&sum, Direction::Decreasing, closeness).is_ok());
         assert!(card(&[7; 3 * MOST_PIXELS], closeness).is_ok());
     }
+}
+
+/// Labels that no card has, unlike their neighbours in both bytes.
+fn unused_labels(places: usize) -> Vec<u16> {
+    let label = |place| u16::MAX - 257 * (place % 241) as u16;
+    (0..places).map(label).collect()
 }
 
 /// The ground; checks that the labels came back as lent.

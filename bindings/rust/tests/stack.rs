@@ -4,14 +4,13 @@
 mod common;
 
 use common::file;
-use kistrovu::raw::{MOST_BINS, MOST_ENTRIES, MOST_PIXELS, MOST_PRINTED, MOST_SWATCH_PIXELS};
-use kistrovu::{card, card_sized, fit, join_log, line_modes, print_card, print_ground, replay};
-use kistrovu::{ring_modes, verdict, widen_labels, Card, Direction};
+use kistrovu::raw::{MOST_BINS, MOST_ENTRIES, MOST_PIXELS, MOST_PRINTED};
+use kistrovu::{card, fit, join_log, line_modes, print_card, print_ground, replay, ring_modes};
+use kistrovu::{verdict, widen_labels, Direction};
 use std::thread::Builder;
 
 /// What the documentation says, in KB of 1,024 bytes.
 const CARD: usize = 512;
-const SIZED: usize = 256;
 const TEXT: usize = 448;
 const GROUND: usize = 192;
 const OTHER: usize = 64;
@@ -35,28 +34,17 @@ fn the_documentation_says_so() {
             assert!(text.contains(&format!("{size} KB")), "{document}: {size}");
         }
     };
-    let all = [CARD, SIZED, TEXT, GROUND, OTHER];
-    said("bindings/rust/src/lib.rs", &all);
-    said("bindings/rust/README.md", &all[..3]);
-}
-
-fn is_of(made: Card, pixels: usize) {
-    assert_eq!(made.labels.len(), pixels);
-    let counts: u32 = made.entries.iter().map(|entry| entry.count).sum();
-    assert_eq!(counts as usize, pixels);
-    assert!(made.entries.len() > 1);
+    said("bindings/rust/src/lib.rs", &[CARD, TEXT, GROUND, OTHER]);
+    said("bindings/rust/README.md", &[CARD, TEXT]);
 }
 
 #[test]
 fn the_largest_image() {
-    let work = || card(&image(MOST_PIXELS), 20);
-    is_of(with_stack(CARD, work).unwrap(), MOST_PIXELS);
-}
-
-#[test]
-fn the_largest_image_of_a_given_size() {
-    let work = || card_sized(&image(MOST_SWATCH_PIXELS), 128, 128, 20);
-    is_of(with_stack(SIZED, work).unwrap(), MOST_SWATCH_PIXELS);
+    let made = with_stack(CARD, || card(&image(MOST_PIXELS), 20)).unwrap();
+    assert_eq!(made.labels.len(), MOST_PIXELS);
+    let counts: u32 = made.entries.iter().map(|entry| entry.count).sum();
+    assert_eq!(counts as usize, MOST_PIXELS);
+    assert!(made.entries.len() > 1);
 }
 
 /// The stored swatch and its stored card, printed.

@@ -98,8 +98,7 @@ fn crimsons_on_both_sides_of_the_opening_are_one_entry() {
     let [folder, _] = folders();
     let wanted = "crimsons-on-both-sides-of-the-opening";
     let made = folder.made.iter().find(|made| made.name == wanted);
-    let image = swatches::read(&made.expect(wanted).text);
-    let pixels = image.expect("it is served").pixels;
+    let pixels = swatches::read(&made.expect(wanted).text).expect("it is served");
     let crimson = |[red, green, _]: &Pixel| *green < 40 && *red > 140;
     let mut ring = vec![0; 60];
     let mut hues = BTreeSet::new();

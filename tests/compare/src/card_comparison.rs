@@ -1,5 +1,5 @@
-//! The cards of an image without a size and of a text, and the line of a ground, engine and reference side by side. Swatches
-//! are long, so only the first entry, label or byte that differs is shown.
+//! The two card calls and the line of a ground, engine and reference side by side. Swatches are long, so only the first
+//! entry, label or byte that differs is shown.
 
 use crate::card_groups::CardCase;
 use crate::comparison::{same, Difference, Tally};
@@ -9,10 +9,10 @@ use reference::calls::{Carded, MOST_ENTRIES, MOST_NARROW_ENTRIES, TOO_MANY_ENTRI
 use reference::cards::COLOUR;
 
 /// What a card call hands back and what it leaves behind, with the places around the labels.
-pub struct Outcome {
-    pub card: Card,
-    pub labels: Vec<u16>,
-    pub bytes: Vec<u8>,
+struct Outcome {
+    card: Card,
+    labels: Vec<u16>,
+    bytes: Vec<u8>,
 }
 
 pub fn card(case: &CardCase, tally: &mut Tally) -> Result<(), Difference> {
@@ -32,32 +32,21 @@ pub fn card(case: &CardCase, tally: &mut Tally) -> Result<(), Difference> {
     tally.most = tally.most.max(expected.card.len);
     let hues = hue_modes(&expected.card);
     tally.round.count(carded.hue_traits(), hues);
-    let input = || format!("card {} of the group, {}", tally.cards, told_case(case));
+    let input = || {
+        format!(
+            "card {} of the group, closeness {closeness}, {places} labels, {} bytes {}",
+            tally.cards,
+            bytes.len(),
+            shown_pixels(bytes)
+        )
+    };
     same_outcome(input, &expected, &found)?;
     same_under_the_narrow_limit(input, case, &carded, &found)
 }
 
-/// What is given.
-pub fn told_case(case: &CardCase) -> String {
-    let CardCase {
-        bytes,
-        closeness,
-        places,
-    } = case;
-    let (count, pixels) = (bytes.len(), shown_pixels(bytes));
-    format!("closeness {closeness}, {places} labels, {count} bytes {pixels}")
-}
-
-pub fn by_the_engine(case: &CardCase) -> Outcome {
-    by_a_call(case, |bytes, labels| {
-        engine::card(bytes, case.closeness, labels)
-    })
-}
-
-/// By a call of the engine that is lent the bytes and the labels.
-pub fn by_a_call(case: &CardCase, call: impl FnOnce(&mut [u8], &mut [u16]) -> Card) -> Outcome {
+fn by_the_engine(case: &CardCase) -> Outcome {
     let (mut bytes, mut labels) = (case.bytes.clone(), lent(case.places));
-    let card = call(&mut bytes, inside(&mut labels));
+    let card = engine::card(&mut bytes, case.closeness, inside(&mut labels));
     Outcome {
         card,
         labels,
@@ -65,7 +54,7 @@ pub fn by_a_call(case: &CardCase, call: impl FnOnce(&mut [u8], &mut [u16]) -> Ca
     }
 }
 
-pub fn by_the_reference(case: &CardCase, carded: &Carded) -> Outcome {
+fn by_the_reference(case: &CardCase, carded: &Carded) -> Outcome {
     let mut labels = lent(case.places);
     Outcome {
         card: carded.answer(inside(&mut labels)).into_raw(),
@@ -107,7 +96,7 @@ fn same_under_the_narrow_limit(
     same_outcome(input, &before, found)
 }
 
-pub fn same_outcome(
+fn same_outcome(
     input: impl Fn() -> String,
     expected: &Outcome,
     found: &Outcome,

@@ -167,8 +167,7 @@ fn any(random: &mut Random, pixels: usize) -> Vec<Pixel> {
     SHAPES[random.below(SHAPES.len())](random, pixels)
 }
 
-/// With as many labels as pixels.
-pub fn fitting(pixels: &[Pixel], closeness: i32) -> CardCase {
+fn fitting(pixels: &[Pixel], closeness: i32) -> CardCase {
     CardCase {
         bytes: pixels.concat(),
         closeness,

@@ -7,13 +7,6 @@ use reference::measures::measures;
 
 pub type CardShape = fn(&mut Random, usize) -> Vec<Pixel>;
 
-/// As many pixels as asked for, also of a shape that leaves the last row short.
-pub fn filled(random: &mut Random, shape: CardShape, pixels: usize) -> Vec<Pixel> {
-    let mut found = shape(random, pixels);
-    found.resize(pixels, [0; 3]);
-    found
-}
-
 pub fn noise(random: &mut Random, pixels: usize) -> Vec<Pixel> {
     (0..pixels).map(|_| any_colour(random)).collect()
 }

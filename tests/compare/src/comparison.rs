@@ -5,7 +5,6 @@ use crate::groups::Case;
 use crate::logs::LogTally;
 use crate::mode_groups::ModesCase;
 use crate::round_joins::RoundTally;
-use crate::sized_cards::SizedTally;
 use crate::turned_rings::TurnTally;
 use crate::widenings::WideningTally;
 use engine::IntoRaw;
@@ -24,7 +23,6 @@ pub struct Calls {
     pub turns: bool,
     pub logs: bool,
     pub cards: bool,
-    pub sized: bool,
     pub widenings: bool,
     pub texts: bool,
     pub stored: bool,
@@ -41,7 +39,6 @@ impl Calls {
             turns: compared,
             logs: compared,
             cards: compared,
-            sized: compared,
             widenings: compared,
             texts: compared,
             stored: compared,
@@ -60,7 +57,6 @@ impl Calls {
             "turns" => &mut calls.turns,
             "logs" => &mut calls.logs,
             "cards" => &mut calls.cards,
-            "sized" => &mut calls.sized,
             "widenings" => &mut calls.widenings,
             "texts" => &mut calls.texts,
             "stored" => &mut calls.stored,
@@ -108,8 +104,6 @@ pub struct Tally {
     pub turned: TurnTally,
     /// Of lines whose joins were logged.
     pub logs: LogTally,
-    /// Of images with a width and a height.
-    pub sized: SizedTally,
     /// Of label lists of one byte each.
     pub widenings: WideningTally,
 }

@@ -1,14 +1,6 @@
 //! Numbers that a group has to reach, whatever the count of the run: what is counted, and how often.
 
 use crate::comparison::Failure;
-use cloths::random::Random;
-
-/// A group: its cases, how many of them following from the count of the run, and what they have to be.
-pub struct Group<Case, Least> {
-    pub name: &'static str,
-    pub cases: fn(&mut Random, usize) -> Vec<Case>,
-    pub least: Least,
-}
 
 pub type Named<const N: usize> = [(&'static str, u64); N];
 

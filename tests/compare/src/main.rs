@@ -4,35 +4,32 @@
 //!
 //!     cargo run --release -p compare -- [--seed S] [--count N] [--only CALLS]
 //!
-//! CALLS is one of measures, fits, verdicts, lines, rings, turns, logs, cards, sized, widenings, texts and stored; turns are
-//! rings that are turned as well, logs are those of the joins of lines, written and replayed, sized are cards of images whose
-//! width and height are told, and widenings are those of labels of one byte. KISTROVU_LIB names another folder to take
-//! `libkistrovu.a` from; KISTROVU_CARD names the card program, which is then run on the stored swatches too.
+//! CALLS is one of measures, fits, verdicts, lines, rings, turns, logs, cards, widenings, texts and stored; turns are rings
+//! that are turned as well, logs are those of the joins of lines, written and replayed, widenings those of labels of one
+//! byte. KISTROVU_LIB names another folder to take `libkistrovu.a` from; KISTROVU_CARD names the card program, which is then
+//! run on the stored swatches too.
 //! Without arguments the run is the same every time: all pixels, the listed histograms, lines, rings, swatches and texts,
 //! and random ones: `COUNT` histograms, and the shares of `COUNT` that the lists of groups give. Each group prints a
 //! line; at the first difference a group ends with the input and both answers. A group of rings or swatches made for joins
 //! round the ring, or for modes that are not in the order of bin numbers, also fails if it has too few of them, and so does
 //! a group of turned rings with too few on which a turn shows, and a group of logs with too few that show how joins are
 //! numbered, which way they are made or that a spoiled log is turned down. Groups of cards and texts made for many entries
-//! fail if too few have more than 255, exactly the most or too many, groups of images with a size if too few are of one row,
-//! of one column or of a wrong size, and groups of widenings if too few are served or turned down. Every card of at most 255
-//! entries is compared with the card under that limit as well, its labels of one byte widened by the engine; and what the
-//! engine gives for an image with its size is compared with what it gives without. The last line is the number of groups
-//! passed and failed, and the exit code is 1 if one failed.
+//! fail if too few have more than 255, exactly the most or too many, and groups of widenings if too few are served or
+//! turned down. Every card of at most 255 entries is compared with the card under that limit as well, its labels of one
+//! byte widened by the engine. The last line is the number of groups passed and failed, and the exit code is 1 if one
+//! failed.
 
 use cloths::random::Random;
 use compare::card_groups::CARDS;
 use compare::comparison::{self, Calls, Difference, Failure, Form, Tally};
 use compare::groups::GROUPS;
-use compare::least::{Group, Named};
 use compare::log_groups;
 use compare::mode_groups::{ModesSource, BOTH, LINES, RINGS};
 use compare::round_joins::Least;
-use compare::sized_groups::SIZED;
 use compare::text_groups::{GROUNDS, TEXTS};
 use compare::turned_groups::TURNED;
 use compare::widening_groups::WIDENINGS;
-use compare::{card_comparison, least, logs, sized_cards, stored, widenings};
+use compare::{card_comparison, least, logs, stored, widenings};
 use std::process::ExitCode;
 
 const SEED: u64 = 1;
@@ -47,9 +44,8 @@ const GROUND_STREAMS: usize = 600;
 const TURN_STREAMS: usize = 700;
 const LOG_STREAMS: usize = 800;
 const WIDENING_STREAMS: usize = 900;
-const SIZED_STREAMS: usize = 1000;
 const USAGE: &str = "usage: compare [--seed S] [--count N] \
-    [--only measures|fits|verdicts|lines|rings|turns|logs|cards|sized|widenings|texts|stored]";
+    [--only measures|fits|verdicts|lines|rings|turns|logs|cards|widenings|texts|stored]";
 
 struct Options {
     seed: u64,
@@ -131,9 +127,6 @@ fn run(options: &Options) -> (usize, usize) {
     }
     if calls.cards {
         run.cards();
-    }
-    if calls.sized {
-        run.sized_cards();
     }
     if calls.widenings {
         run.widenings();
@@ -231,41 +224,20 @@ impl Run<'_> {
         }
     }
 
-    /// Groups of cases of one kind, each with numbers to reach. `numbers` gives those found, and the least.
-    fn counted<C, L, const N: usize>(
-        &mut self,
-        what: &str,
-        groups: &[Group<C, L>],
-        first_stream: usize,
-        compare: fn(&C, &mut Tally) -> Result<(), Difference>,
-        numbers: fn(&Tally, &L) -> [Named<N>; 2],
-    ) {
-        for (index, group) in groups.iter().enumerate() {
+    fn widenings(&mut self) {
+        for (index, group) in WIDENINGS.iter().enumerate() {
             let mut tally = Tally::default();
-            let mut random = self.stream(first_stream + index);
+            let mut random = self.stream(WIDENING_STREAMS + index);
             let cases = (group.cases)(&mut random, self.options.count);
-            let outcome = cases.iter().try_for_each(|case| compare(case, &mut tally));
-            let [found, least] = numbers(&tally, &group.least);
+            let outcome = cases
+                .iter()
+                .try_for_each(|case| widenings::compare(case, &mut tally));
+            let found = tally.widenings.found.named();
             let outcome = outcome
                 .map_err(Failure::from)
-                .and_then(|()| least::reached(found, least));
-            self.note(&format!("{what}, {}", group.name), tally, outcome);
+                .and_then(|()| least::reached(found, group.least.named()));
+            self.note(&format!("labels widened, {}", group.name), tally, outcome);
         }
-    }
-
-    fn sized_cards(&mut self) {
-        let (name, compare) = ("card with a size", sized_cards::compare);
-        self.counted(name, &SIZED, SIZED_STREAMS, compare, |tally, least| {
-            [tally.sized.found.named(), least.named()]
-        });
-    }
-
-    fn widenings(&mut self) {
-        let (name, compare) = ("labels widened", widenings::compare);
-        let first = WIDENING_STREAMS;
-        self.counted(name, &WIDENINGS, first, compare, |tally, least| {
-            [tally.widenings.found.named(), least.named()]
-        });
     }
 
     fn texts(&mut self) {
@@ -342,8 +314,6 @@ fn compared(tally: &Tally) -> String {
         let (served, turned_down) = (tally.served, tally.turned_down);
         let told = tally.logs.told();
         format!("{served} served, {turned_down} turned down; {told}")
-    } else if tally.sized.calls > 0 {
-        tally.sized.told()
     } else if tally.widenings.calls > 0 {
         tally.widenings.told()
     } else if tally.modes > 0 || tally.cards > 0 {

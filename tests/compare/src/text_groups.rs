@@ -1,7 +1,7 @@
 //! The named groups of texts for the call behind the card program, and of numbers for the lines of grounds, each of which
 //! is one test.
 
-use crate::card_shapes::{filled, SHAPES};
+use crate::card_shapes::SHAPES;
 use crate::comparison::{Failure, Tally};
 use crate::damage::damage;
 use crate::entry_counts::EntryCounts;
@@ -259,10 +259,13 @@ fn well_formed(random: &mut Random) -> Vec<u8> {
     let most = if random.one_in(10) { 30 } else { 6 };
     let (width, height) = (1 + random.below(most), 1 + random.below(most));
     let shape = SHAPES[random.below(SHAPES.len())];
+    let mut pixels = shape(random, width * height);
+    // Some shapes leave the last row short.
+    pixels.resize(width * height, [0; 3]);
     Swatch {
         width,
         height,
-        pixels: filled(random, shape, width * height),
+        pixels,
     }
     .text()
 }

@@ -1,33 +1,39 @@
 //! The named groups of labels of one byte that are widened, each of which is one test.
 
-use crate::least::Group;
 use crate::widenings::{WideningCase, Widenings};
 use cloths::random::Random;
 
+/// A group: its lists, how many of them following from the count of the run, and what they have to be.
+pub struct WideningGroup {
+    pub name: &'static str,
+    pub cases: fn(&mut Random, usize) -> Vec<WideningCase>,
+    pub least: Widenings,
+}
+
 // The least numbers of what is drawn are well below what the run without arguments has, so that another seed does not fall
 // below by chance.
-pub const WIDENINGS: [Group<WideningCase, Widenings>; 5] = [
-    Group {
+pub const WIDENINGS: [WideningGroup; 5] = [
+    WideningGroup {
         name: "every byte",
         cases: every_byte,
         least: Widenings::of([770, 2, 0, 0, 0]),
     },
-    Group {
+    WideningGroup {
         name: "every length 0 to 300",
         cases: every_length,
         least: Widenings::of([306, 0, 0, 1_200, 902]),
     },
-    Group {
+    WideningGroup {
         name: "lengths that are equal in fewer bits",
         cases: equal_in_fewer_bits,
         least: Widenings::of([0, 0, 0, 36, 36]),
     },
-    Group {
+    WideningGroup {
         name: "65,536 labels and more",
         cases: long,
         least: Widenings::of([8, 8, 6, 24, 16]),
     },
-    Group {
+    WideningGroup {
         name: "drawn",
         cases: drawn,
         least: Widenings::of([500, 20, 0, 50, 50]),

@@ -1,6 +1,5 @@
 //! The public calls in one form: what a call is given, and everything that comes back, from either implementation.
 
-use compare::sized_cards::Size;
 use reference::calls as second;
 use reference::cards::Pixel;
 
@@ -21,8 +20,11 @@ pub enum Call {
     JoinLog(Logging),
     /// With the list for the separators.
     Replay(Logging, Vec<u32>),
-    Card(Labelling),
-    CardSized(Size, Labelling),
+    Card {
+        pixels: Vec<u8>,
+        closeness: i32,
+        labels: Vec<u16>,
+    },
     WidenLabels {
         narrow: Vec<u8>,
         labels: Vec<u16>,
@@ -43,13 +45,6 @@ pub struct Logging {
     pub histogram: Vec<u32>,
     pub closeness: i32,
     pub log: Vec<i64>,
-}
-
-/// What either card call is given besides a size.
-pub struct Labelling {
-    pub pixels: Vec<u8>,
-    pub closeness: i32,
-    pub labels: Vec<u16>,
 }
 
 /// A figure that comes back. An array has all of its places, a list, log or label buffer is as it was left.
@@ -109,12 +104,16 @@ pub fn engine(call: &Call) -> Answer {
         Call::RingModes(given) => engine_modes(given, engine::ring_modes),
         Call::JoinLog(given) => engine_log(given),
         Call::Replay(given, list) => engine_replay(given, list.clone()),
-        Call::Card(given) => engine_card(given, |pixels, labels| {
-            engine::card(pixels, given.closeness, labels)
-        }),
-        Call::CardSized(size, given) => engine_card(given, |pixels, labels| {
-            engine::card_sized(pixels, size.width, size.height, given.closeness, labels)
-        }),
+        Call::Card {
+            pixels,
+            closeness,
+            labels,
+        } => {
+            let mut labels = labels.clone();
+            let a = lent(pixels, |lent| engine::card(lent, *closeness, &mut labels));
+            let entries = a.entries.map(|entry| entry_figures!(entry));
+            card_answer(a.number, a.len, entries.concat(), &labels)
+        }
         Call::WidenLabels { narrow, labels } => {
             let mut labels = labels.clone();
             let number = lent(narrow, |lent| engine::widen_labels(lent, &mut labels));
@@ -156,16 +155,6 @@ fn engine_replay(given: &Logging, mut list: Vec<u32>) -> Answer {
     modes_answer(a.number, a.separators, list)
 }
 
-fn engine_card(
-    given: &Labelling,
-    call: impl FnOnce(&mut [u8], &mut [u16]) -> engine::Card,
-) -> Answer {
-    let mut labels = given.labels.clone();
-    let a = lent(&given.pixels, |pixels| call(pixels, &mut labels));
-    let entries = a.entries.map(|entry| entry_figures!(entry));
-    card_answer(a.number, a.len, entries.concat(), &labels)
-}
-
 /// The answer of the second implementation.
 pub fn reference(call: &Call) -> Answer {
     match call {
@@ -190,12 +179,16 @@ pub fn reference(call: &Call) -> Answer {
         Call::RingModes(given) => second_modes(given, second::ring_modes),
         Call::JoinLog(given) => second_log(given),
         Call::Replay(given, list) => second_replay(given, list.clone()),
-        Call::Card(given) => second_card(given, |pixels, labels| {
-            second::card(pixels, given.closeness, labels)
-        }),
-        Call::CardSized(size, given) => second_card(given, |pixels, labels| {
-            second::card_sized(pixels, size.width, size.height, given.closeness, labels)
-        }),
+        Call::Card {
+            pixels,
+            closeness,
+            labels,
+        } => {
+            let mut labels = labels.clone();
+            let a = second::card(pixels, *closeness, &mut labels);
+            let entries = a.entries.map(|entry| entry_figures!(entry));
+            card_answer(a.number, a.len, entries.concat(), &labels)
+        }
         Call::WidenLabels { narrow, labels } => {
             let mut labels = labels.clone();
             let number = second::widen_labels(narrow, &mut labels);
@@ -229,16 +222,6 @@ fn second_log(given: &Logging) -> Answer {
 fn second_replay(given: &Logging, mut list: Vec<u32>) -> Answer {
     let a = second::replay(&given.histogram, given.closeness, &given.log, &mut list);
     modes_answer(a.number, a.separators, list)
-}
-
-fn second_card(
-    given: &Labelling,
-    call: impl FnOnce(&[u8], &mut [u16]) -> second::CardAnswer,
-) -> Answer {
-    let mut labels = given.labels.clone();
-    let a = call(&given.pixels, &mut labels);
-    let entries = a.entries.map(|entry| entry_figures!(entry));
-    card_answer(a.number, a.len, entries.concat(), &labels)
 }
 
 /// Lends a copy to a call of the engine, which may read it only.

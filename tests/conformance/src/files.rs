@@ -1,9 +1,7 @@
 //! The files of the kit: each case is run through both implementations, and written if they agree.
 
-use crate::calls::{engine, reference, Answer, Call, Labelling, Logging};
-use crate::cases::{
-    cards, fits, grounds, labels, logs, modes, pixels, sized_cards, texts, verdicts, Case,
-};
+use crate::calls::{engine, reference, Answer, Call, Logging};
+use crate::cases::{cards, fits, grounds, labels, logs, modes, pixels, texts, verdicts, Case};
 use crate::kept::{folder, FORMAT};
 use crate::writing::{numbers, quoted, rows, text};
 use reference::logs::RECORD;
@@ -58,11 +56,6 @@ fn planned() -> Result<Vec<Planned>, String> {
             logs::replays(),
         ),
         plan("card", "The card of an image.", cards::cases()),
-        plan(
-            "card_sized",
-            "The card of an image whose width and height are told.",
-            sized_cards::cases(),
-        ),
         plan(
             "widen_labels",
             "Labels of one byte each, widened.",
@@ -140,10 +133,14 @@ fn given_lines(call: &Call) -> String {
         }
         Call::JoinLog(given) => logging_lines(given),
         Call::Replay(given, list) => logging_lines(given) + &numbers("list", &wide(list), 1),
-        Call::Card(given) => labelling_lines("", given),
-        Call::CardSized(size, given) => {
-            let size = one("width", size.width.into()) + &one("height", size.height.into());
-            labelling_lines(&size, given)
+        Call::Card {
+            pixels,
+            closeness,
+            labels,
+        } => {
+            numbers("pixels", &wide(pixels), 3)
+                + &one("closeness", (*closeness).into())
+                + &numbers("labels", &wide(labels), 1)
         }
         Call::WidenLabels { narrow, labels } => {
             numbers("narrow", &wide(narrow), 1) + &numbers("labels", &wide(labels), 1)
@@ -158,14 +155,6 @@ fn logging_lines(given: &Logging) -> String {
     numbers("histogram", &wide(&given.histogram), 1)
         + &numbers("closeness", &[given.closeness.into()], 1)
         + &numbers("log", &given.log, RECORD)
-}
-
-/// The size, if there is one, stands where the call is given it.
-fn labelling_lines(size: &str, given: &Labelling) -> String {
-    numbers("pixels", &wide(&given.pixels), 3)
-        + size
-        + &numbers("closeness", &[given.closeness.into()], 1)
-        + &numbers("labels", &wide(&given.labels), 1)
 }
 
 /// The figures, without the zeros past the last bin, entry or byte.

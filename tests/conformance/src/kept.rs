@@ -1,8 +1,7 @@
 //! The stored cases: calls and answers, made only from the records of a file.
 
-use crate::calls::{Answer, Call, Figure, Labelling, Listing, Logging};
+use crate::calls::{Answer, Call, Figure, Listing, Logging};
 use crate::reading::{records, Record};
-use compare::sized_cards::Size;
 use reference::calls::{MOST_BINS, MOST_ENTRIES, MOST_PRINTED};
 use std::fs;
 use std::path::{Path, PathBuf};
@@ -61,7 +60,6 @@ fn from_record(name: &str, record: &Record) -> Result<Vec<Kept>, String> {
         "join_log" => vec![join_log(&mut fields)?],
         "replay" => vec![replay(&mut fields)?],
         "card" => vec![card(&mut fields)?],
-        "card_sized" => vec![card_sized(&mut fields)?],
         "widen_labels" => vec![widen_labels(&mut fields)?],
         "print_card" => vec![print_card(&mut fields)?],
         "print_ground" => vec![print_ground(&mut fields)?],
@@ -156,36 +154,17 @@ fn logging(fields: &mut Fields) -> Result<Logging, String> {
 }
 
 fn card(fields: &mut Fields) -> Result<Pair, String> {
-    let pixels = fields.list("pixels")?;
-    let given = labelling(fields, pixels)?;
-    Ok((Call::Card(given), card_answer(fields)?))
-}
-
-fn card_sized(fields: &mut Fields) -> Result<Pair, String> {
-    let pixels = fields.list("pixels")?;
-    let size = Size {
-        width: fields.one("width")?,
-        height: fields.one("height")?,
-    };
-    let given = labelling(fields, pixels)?;
-    Ok((Call::CardSized(size, given), card_answer(fields)?))
-}
-
-fn labelling(fields: &mut Fields, pixels: Vec<u8>) -> Result<Labelling, String> {
-    Ok(Labelling {
-        pixels,
+    let call = Call::Card {
+        pixels: fields.list("pixels")?,
         closeness: fields.one("closeness")?,
         labels: fields.list("labels")?,
-    })
-}
-
-fn card_answer(fields: &mut Fields) -> Result<Answer, String> {
+    };
     let mut answer = fields.figures(&["number", "len"])?;
     let written = ENTRY * answer[1].values[0] as usize;
     let entries = fields.list("entry")?;
     answer.push(filled("entry", entries, written, ENTRY * MOST_ENTRIES)?);
     answer.push(figure("labels_after", fields.list("labels_after")?));
-    Ok(answer)
+    Ok((call, answer))
 }
 
 fn widen_labels(fields: &mut Fields) -> Result<Pair, String> {

@@ -2,7 +2,7 @@
 
 use super::rattle::Source;
 use super::tokens::tokens;
-use std::collections::{BTreeMap, BTreeSet};
+use std::collections::BTreeMap;
 
 /// The numbers that docs/METHOD.md lists, in order.
 const LISTED: [u64; 12] = [1, 2, 3, 4, 5, 6, 7, 8, 9, 10, 11, 20];
@@ -15,7 +15,7 @@ pub struct Grounds {
 }
 
 /// The definition of each call's number. Those of a call that no ground concerns have none.
-const NUMBERS: [(&str, Option<&str>); 13] = [
+const NUMBERS: [(&str, Option<&str>); 12] = [
     ("kistrovu_version", None),
     ("kistrovu_measures", None),
     ("kistrovu_fit", Some("fit_number")),
@@ -25,7 +25,6 @@ const NUMBERS: [(&str, Option<&str>); 13] = [
     ("kistrovu_join_log", Some("log_number")),
     ("kistrovu_replay", Some("replay_number")),
     ("kistrovu_card", Some("card_number")),
-    ("kistrovu_card_sized", Some("sized_number")),
     ("kistrovu_widen_labels", Some("widen_number")),
     ("kistrovu_print_card", Some("text_number")),
     ("kistrovu_print_ground", None),
@@ -36,12 +35,12 @@ impl Grounds {
     pub fn read(text: &str) -> Result<Self, String> {
         let worded: Vec<(u64, String)> = text.lines().filter_map(worded).collect();
         let numbers: Vec<u64> = worded.iter().map(|(number, _)| *number).collect();
-        let names: BTreeMap<String, u64> = text.lines().filter_map(defined).collect();
-        // One ground may have several definitions: of a text, and of an image.
-        let found: BTreeSet<u64> = names.values().copied().collect();
-        if numbers != LISTED || !found.iter().eq(&LISTED) {
+        let defined: Vec<(String, u64)> = text.lines().filter_map(defined).collect();
+        let found: Vec<u64> = defined.iter().map(|(_, number)| *number).collect();
+        if numbers != LISTED || found != LISTED {
             return Err(format!("grounds {numbers:?} are listed, {found:?} defined"));
         }
+        let names: BTreeMap<String, u64> = defined.into_iter().collect();
         let calls = NUMBERS.iter().map(|(call, name)| {
             let found = name.map_or(Ok(Vec::new()), |name| sequence(text, name, &names));
             Ok((call.to_string(), found?))
@@ -67,20 +66,12 @@ impl Grounds {
     }
 }
 
-/// The rule's first sentence, with the case that a second one may add. In a comment in C it begins small and has no full
-/// stop.
+/// The rule's first sentence. In a comment in C it begins small and has no full stop.
 fn worded(line: &str) -> Option<(u64, String)> {
     let (number, words) = line.strip_prefix("- **G")?.split_once("** ")?;
-    let (words, more) = words.split_once('.')?;
+    let words = words.split_once('.')?.0;
     let (first, rest) = words.split_at_checked(1)?;
-    let added = added(more).unwrap_or_default();
-    Some((number.parse().ok()?, first.to_lowercase() + rest + &added))
-}
-
-/// ` For some: or something.` as the end of the sentence before it.
-fn added(more: &str) -> Option<String> {
-    let (whom, case) = more.strip_prefix(" For ")?.split_once(": or ")?;
-    Some(format!(", or, for {whom}, {}", case.strip_suffix('.')?))
+    Some((number.parse().ok()?, first.to_lowercase() + rest))
 }
 
 fn defined(line: &str) -> Option<(String, u64)> {

@@ -173,13 +173,13 @@ fn wrong_calls_are_refused() {
 fn wrong_calls_of_labels_are_refused() {
     let edits = [
         (
-            "bytes, int32_t closeness, uint16_t *labels",
-            "bytes, int32_t closeness, uint8_t *labels",
+            "int32_t closeness, uint16_t *labels",
+            "int32_t closeness, uint8_t *labels",
             "is_kistrovu_card",
         ),
         (
-            "bytes, int32_t closeness, uint16_t *labels",
-            "bytes, int32_t closeness, const uint16_t *labels",
+            "int32_t closeness, uint16_t *labels",
+            "int32_t closeness, const uint16_t *labels",
             "is_kistrovu_card",
         ),
         (
@@ -209,44 +209,6 @@ fn wrong_calls_of_labels_are_refused() {
         ),
     ];
     HEADER.refused("label-calls", &edits);
-}
-
-/// Width and height are of one type: no compiler can tell if they change places.
-#[test]
-fn wrong_calls_with_width_and_height_are_refused() {
-    let edits = [
-        (
-            "uint32_t width, uint32_t height",
-            "size_t width, size_t height",
-            "is_kistrovu_card_sized",
-        ),
-        (
-            "uint32_t width, uint32_t height",
-            "uint32_t width, int32_t height",
-            "is_kistrovu_card_sized",
-        ),
-        (
-            "size_t bytes, uint32_t width, uint32_t height,",
-            "uint32_t width, uint32_t height, size_t bytes,",
-            "is_kistrovu_card_sized",
-        ),
-        (
-            "kistrovu_card_sized(const uint8_t *pixels",
-            "kistrovu_card_sized(uint8_t *pixels",
-            "is_kistrovu_card_sized",
-        ),
-        (
-            " int32_t closeness, uint16_t *labels, size_t places);\n\n/* ---- labels",
-            " int32_t closeness, uint8_t *labels, size_t places);\n\n/* ---- labels",
-            "is_kistrovu_card_sized",
-        ),
-        (
-            "struct kistrovu_card kistrovu_card_sized(const",
-            "struct kistrovu_card kistrovu_sized_card(const",
-            "kistrovu_card_sized",
-        ),
-    ];
-    HEADER.refused("sized-calls", &edits);
 }
 
 #[test]
@@ -338,11 +300,6 @@ fn wrong_grounds_are_refused() {
             "the words of KISTROVU_CLOSENESS",
         ),
         (
-            "16,384, or, for an image that comes with them, three times this product is not the number of its bytes */",
-            "16,384 */",
-            "the words of KISTROVU_SIZE",
-        ),
-        (
             "each pixel, or for each one-byte label that is read into it */",
             "each pixel */",
             "the words of KISTROVU_LABELS",
@@ -366,11 +323,6 @@ fn wrong_grounds_are_refused() {
             "Grounds 4, 5, 8, 9, 11\n",
             "Grounds 4, 5, 8, 11\n",
             "the grounds of kistrovu_card are said to be [4, 5, 8, 11]",
-        ),
-        (
-            "Grounds 2, 4, 5, 8, 9, 11\n",
-            "Grounds 4, 5, 8, 9, 11\n",
-            "the grounds of kistrovu_card_sized are said to be [4, 5, 8, 9, 11]",
         ),
         (
             "widened. Ground 9\n",

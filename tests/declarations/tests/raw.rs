@@ -179,13 +179,13 @@ fn wrong_calls_are_refused() {
 fn wrong_calls_of_labels_are_refused() {
     let edits = [
         (
-            "bytes: usize,\n        closeness: i32,\n        labels: *mut u16",
-            "bytes: usize,\n        closeness: i32,\n        labels: *mut u8",
+            "closeness: i32,\n        labels: *mut u16",
+            "closeness: i32,\n        labels: *mut u8",
             "raw::kistrovu_card",
         ),
         (
-            "bytes: usize,\n        closeness: i32,\n        labels: *mut u16",
-            "bytes: usize,\n        closeness: i32,\n        labels: *const u16",
+            "closeness: i32,\n        labels: *mut u16",
+            "closeness: i32,\n        labels: *const u16",
             "raw::kistrovu_card",
         ),
         (
@@ -218,41 +218,12 @@ fn wrong_calls_of_labels_are_refused() {
 }
 
 #[test]
-fn wrong_calls_with_width_and_height_are_refused() {
-    let edits = [
-        ("width: u32,", "width: usize,", "raw::kistrovu_card_sized"),
-        ("height: u32,", "height: i32,", "raw::kistrovu_card_sized"),
-        (
-            "height: u32,\n        closeness: i32,\n        labels: *mut u16",
-            "height: u32,\n        closeness: i32,\n        labels: *mut u8",
-            "raw::kistrovu_card_sized",
-        ),
-        (
-            "pub fn kistrovu_card_sized(",
-            "pub fn kistrovu_sized_card(",
-            "kistrovu_card_sized",
-        ),
-        (
-            "Grounds 2, 4, 5, 8, 9, 11",
-            "Grounds 4, 5, 8, 9, 11",
-            "the grounds of kistrovu_card_sized",
-        ),
-    ];
-    RAW.refused("raw-sized-calls", &edits);
-}
-
-#[test]
 fn wrong_constants_are_refused() {
     let edits = [
         (
             "MOST_ENTRIES: usize = 1_000",
             "MOST_ENTRIES: usize = 255",
             "raw::MOST_ENTRIES",
-        ),
-        (
-            "MOST_SWATCH_PIXELS: usize = 16_384",
-            "MOST_SWATCH_PIXELS: usize = 65_536",
-            "raw::MOST_SWATCH_PIXELS",
         ),
         (
             "RECORD_NUMBERS: usize = 4",

@@ -151,15 +151,9 @@ fn a_changed_source_is_seen() {
         ),
         (
             EXPORTS,
-            "kistrovu_card(pixels: &[u8], closeness: i32, labels: &mut [u16]",
-            "kistrovu_card(pixels: &[u8], closeness: i32, labels: &mut [u8]",
+            "closeness: i32, labels: &mut [u16]",
+            "closeness: i32, labels: &mut [u8]",
             "is_kistrovu_card",
-        ),
-        (
-            EXPORTS,
-            "    width: u32,\n    height: u32,",
-            "    width: i32,\n    height: u32,",
-            "is_kistrovu_card_sized",
         ),
         (
             EXPORTS,

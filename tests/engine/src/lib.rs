@@ -75,19 +75,6 @@ pub fn card(pixels: &mut [u8], closeness: i32, labels: &mut [u16]) -> Card {
     unsafe { raw::kistrovu_card(start, bytes, closeness, list, places) }
 }
 
-pub fn card_sized(
-    pixels: &mut [u8],
-    width: u32,
-    height: u32,
-    closeness: i32,
-    labels: &mut [u16],
-) -> Card {
-    let (start, bytes) = (pixels.as_mut_ptr(), pixels.len());
-    let (list, places) = (labels.as_mut_ptr(), labels.len());
-    // SAFETY: as in `card`: width and height are plain numbers.
-    unsafe { raw::kistrovu_card_sized(start, bytes, width, height, closeness, list, places) }
-}
-
 pub fn widen_labels(narrow: &mut [u8], labels: &mut [u16]) -> u32 {
     let (start, count) = (narrow.as_mut_ptr(), narrow.len());
     let (list, places) = (labels.as_mut_ptr(), labels.len());

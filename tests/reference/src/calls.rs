@@ -4,7 +4,6 @@ use crate::cards::{self, Card, Entry, Pixel};
 use crate::logs::{self, Logged};
 use crate::measures::{self, Measures};
 use crate::rings::{Finished, RingTraits};
-use crate::swatches::{Image, NO_SIZE};
 use crate::test::{self, Verdict};
 use crate::{lines, pooling, rings, swatches};
 
@@ -243,17 +242,6 @@ pub fn card(bytes: &[u8], closeness: i32, labels: &mut [u16]) -> CardAnswer {
     Carded::of(bytes, closeness, labels.len()).answer(labels)
 }
 
-/// The card of an image whose width and height are told.
-pub fn card_sized(
-    bytes: &[u8],
-    width: u32,
-    height: u32,
-    closeness: i32,
-    labels: &mut [u16],
-) -> CardAnswer {
-    Carded::of_sized(bytes, width, height, closeness, labels.len()).answer(labels)
-}
-
 /// An image with its card, for whoever asks for it under more than one limit: finding the card takes long.
 pub struct Carded {
     /// The first ground before 11, 0 where none holds.
@@ -265,24 +253,8 @@ pub struct Carded {
 impl Carded {
     pub fn of(bytes: &[u8], closeness: i32, places: usize) -> Carded {
         let number = first_card_ground(bytes, closeness, places);
-        Carded::new(number, || cards::card(&pixels(bytes), closeness))
-    }
-
-    /// With the sums of its colours added column by column.
-    pub fn of_sized(
-        bytes: &[u8],
-        width: u32,
-        height: u32,
-        closeness: i32,
-        places: usize,
-    ) -> Carded {
-        let number = first_sized_card_ground(bytes, width, height, closeness, places);
-        Carded::new(number, || {
-            cards::sized_card(&pixels(bytes), width as usize, closeness)
-        })
-    }
-
-    fn new(number: u32, card: impl FnOnce() -> Card) -> Carded {
+        let pixels = bytes.chunks_exact(3).map(|rgb| [rgb[0], rgb[1], rgb[2]]);
+        let card = || cards::card(&pixels.collect::<Vec<Pixel>>(), closeness);
         Carded {
             number,
             card: (number == 0).then(card),
@@ -320,11 +292,6 @@ impl Carded {
     }
 }
 
-fn pixels(bytes: &[u8]) -> Vec<Pixel> {
-    let pixels = bytes.chunks_exact(3).map(|rgb| [rgb[0], rgb[1], rgb[2]]);
-    pixels.collect()
-}
-
 fn card_answer(number: u32, card: &[Entry]) -> CardAnswer {
     let mut entries = [Entry::default(); MOST_ENTRIES];
     entries[..card.len()].copy_from_slice(card);
@@ -347,10 +314,11 @@ pub fn widen_labels(narrow: &[u8], labels: &mut [u16]) -> u32 {
 
 /// The card of a swatch, both as text.
 pub fn print_card(text: &[u8]) -> PrintedAnswer {
-    let outcome = swatches::read(text).and_then(|image| {
-        let card = card_of(&image);
+    let outcome = swatches::read(text).and_then(|pixels| {
+        let bytes = pixels.concat();
+        let card = card(&bytes, PROGRAM_CLOSENESS, &mut vec![0; pixels.len()]);
         let entries = &card.entries[..card.len as usize];
-        let printed = swatches::printed_card(entries, image.pixels.len(), PROGRAM_CLOSENESS);
+        let printed = swatches::printed_card(entries, pixels.len(), PROGRAM_CLOSENESS);
         if card.number == 0 {
             Ok(printed)
         } else {
@@ -361,12 +329,6 @@ pub fn print_card(text: &[u8]) -> PrintedAnswer {
         Ok(card) => printed_answer(0, &card),
         Err(number) => printed_answer(number, ""),
     }
-}
-
-fn card_of(image: &Image) -> CardAnswer {
-    let bytes = image.pixels.concat();
-    let labels = &mut vec![0; image.pixels.len()];
-    card_sized(&bytes, image.width, image.height, PROGRAM_CLOSENESS, labels)
 }
 
 /// The line that the card program prints for a swatch that is turned down.
@@ -402,22 +364,6 @@ fn first_card_ground(bytes: &[u8], closeness: i32, places: usize) -> u32 {
         (8, !is_served(closeness)),
         (OTHER_PLACES, places != pixels),
     ])
-}
-
-/// The same where width and height are told.
-fn first_sized_card_ground(
-    bytes: &[u8],
-    width: u32,
-    height: u32,
-    closeness: i32,
-    places: usize,
-) -> u32 {
-    let size = swatches::size(width, height);
-    if size.is_some_and(|size| 3 * size == bytes.len() as u64) {
-        first_card_ground(bytes, closeness, places)
-    } else {
-        NO_SIZE
-    }
 }
 
 /// The number of the first ground before 20 that holds, 0 when none does. A fit has no closeness, and only modes and joins

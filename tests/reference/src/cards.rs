@@ -1,7 +1,6 @@
 //! The card. Every pixel gets a key: its kind and the numbers of its hue, saturation and intensity modes, found level by
 //! level. The keys that occur, sorted, are the entries.
 
-use crate::columns::ColumnSums;
 use crate::measures::{measures, Measures};
 use crate::rings::RingTraits;
 use crate::{lines, rings};
@@ -80,64 +79,19 @@ fn line_starts(counts: &[u64], closeness: i32) -> (Vec<usize>, RingTraits) {
 }
 
 pub fn card(pixels: &[Pixel], closeness: i32) -> Card {
-    let labelled = Labelled::of(pixels, closeness);
-    let mut held: Vec<Vec<Pixel>> = vec![Vec::new(); labelled.keys.len()];
-    for (&label, &pixel) in labelled.labels.iter().zip(pixels) {
+    let (keys, hue_traits) = keys(pixels, closeness);
+    let all: Vec<Key> = BTreeSet::from_iter(&keys).into_iter().copied().collect();
+    let number = |key: &Key| all.binary_search(key).expect("it is one of them");
+    let labels: Vec<usize> = keys.iter().map(number).collect();
+    let mut held: Vec<Vec<Pixel>> = vec![Vec::new(); all.len()];
+    for (&label, &pixel) in labels.iter().zip(pixels) {
         held[label].push(pixel);
     }
-    labelled.card(held.iter().map(|held| means(held)).collect())
-}
-
-/// The card of an image that comes with its width: the means are those of sums that were added column by column.
-pub fn sized_card(pixels: &[Pixel], width: usize, closeness: i32) -> Card {
-    let labelled = Labelled::of(pixels, closeness);
-    let counts = labelled.counts();
-    let mut columns = ColumnSums::new(pixels, &labelled.labels, width, counts.len());
-    while columns.add_column() {}
-    let sums = columns.sums.iter().zip(counts);
-    let means = sums.map(|(sums, count)| sums.map(|sum| rounded(sum, count)));
-    let means = means.collect();
-    labelled.card(means)
-}
-
-/// The keys that occur, sorted, and for each pixel the place of its key among them.
-struct Labelled {
-    keys: Vec<Key>,
-    labels: Vec<usize>,
-    hue_traits: RingTraits,
-}
-
-impl Labelled {
-    fn of(pixels: &[Pixel], closeness: i32) -> Labelled {
-        let (found, hue_traits) = keys(pixels, closeness);
-        let keys: Vec<Key> = BTreeSet::from_iter(&found).into_iter().copied().collect();
-        let number = |key: &Key| keys.binary_search(key).expect("it is one of them");
-        Labelled {
-            labels: found.iter().map(number).collect(),
-            keys,
-            hue_traits,
-        }
-    }
-
-    /// How many pixels bear the label of each entry.
-    fn counts(&self) -> Vec<u64> {
-        let mut counts = vec![0; self.keys.len()];
-        for &label in &self.labels {
-            counts[label] += 1;
-        }
-        counts
-    }
-
-    /// With the means of each entry.
-    fn card(self, means: Vec<Pixel>) -> Card {
-        let figures = means.into_iter().zip(self.counts());
-        let entries = self.keys.iter().zip(figures);
-        let entries = entries.map(|(key, (means, count))| entry(key, means, count));
-        Card {
-            entries: entries.collect(),
-            labels: self.labels,
-            hue_traits: self.hue_traits,
-        }
+    let entries = all.iter().zip(&held).map(|(key, held)| entry(key, held));
+    Card {
+        entries: entries.collect(),
+        labels,
+        hue_traits,
     }
 }
 
@@ -206,8 +160,12 @@ pub fn mode_of(bin: usize, starts: &[usize], bins: usize) -> usize {
         .expect("there is a mode")
 }
 
-fn entry(key: &Key, [red, green, blue]: Pixel, count: u64) -> Entry {
+fn entry(key: &Key, pixels: &[Pixel]) -> Entry {
     let [kind, hue, saturation, intensity] = key.map(|number| number as u8);
+    let [red, green, blue] = [0, 1, 2].map(|channel| {
+        let values: Vec<u8> = pixels.iter().map(|pixel| pixel[channel]).collect();
+        mean(&values)
+    });
     Entry {
         kind,
         hue,
@@ -216,25 +174,14 @@ fn entry(key: &Key, [red, green, blue]: Pixel, count: u64) -> Entry {
         red,
         green,
         blue,
-        count: count as u32,
+        count: pixels.len() as u32,
     }
 }
 
-/// Of R, G and B, each by itself.
-fn means(pixels: &[Pixel]) -> Pixel {
-    [0, 1, 2].map(|channel| {
-        let values: Vec<u8> = pixels.iter().map(|pixel| pixel[channel]).collect();
-        mean(&values)
-    })
-}
-
+/// Halves up.
 fn mean(values: &[u8]) -> u8 {
-    let sum = values.iter().map(|&value| u64::from(value)).sum();
-    rounded(sum, values.len() as u64)
-}
-
-/// The mean, halves up.
-fn rounded(sum: u64, count: u64) -> u8 {
+    let count = values.len() as u64;
+    let sum: u64 = values.iter().map(|&value| u64::from(value)).sum();
     let (whole, rest) = (sum / count, sum % count);
     (whole + u64::from(2 * rest >= count)) as u8
 }

@@ -3,13 +3,11 @@
 //! written to be read beside the rules, clear rather than fast, and deliberately by other means than the engine, so that a
 //! slip in one is unlikely to occur in the other as well.
 //!
-//! One module for each section of the rules, `steps` for pooling that goes from bin to bin, `turns` for what turning a ring
-//! does to it, and `columns` for colour sums that go from column to column. To run its own tests: `cargo test -p reference`
-//! in `tests/`.
+//! One module for each section of the rules, `steps` for pooling that goes from bin to bin, and `turns` for what turning
+//! a ring does to it. To run its own tests: `cargo test -p reference` in `tests/`.
 
 pub mod calls;
 pub mod cards;
-pub mod columns;
 pub mod lines;
 pub mod logarithm;
 pub mod logs;

@@ -17,38 +17,19 @@ const HEADER_COLUMNS: usize = 6;
 const PIXEL_COLUMNS: usize = 4;
 const PRINTED_COLUMNS: usize = 6;
 
-/// What a swatch shows.
-#[derive(Clone, Debug, PartialEq, Eq)]
-pub struct Image {
-    pub width: u32,
-    pub height: u32,
-    /// Row by row.
-    pub pixels: Vec<Pixel>,
-}
-
-/// How many pixels an image of this width and height has, if they are neither none nor too many. No product of two such
-/// numbers is too large for 64 bits.
-pub fn size(width: u32, height: u32) -> Option<u64> {
-    let size = u64::from(width) * u64::from(height);
-    (1..=MOST_SWATCH_PIXELS).contains(&size).then_some(size)
-}
-
-/// The image of a swatch, or the number of the first ground that holds.
-pub fn read(text: &[u8]) -> Result<Image, u32> {
+/// The pixels of a swatch, row by row, or the number of the first ground that holds.
+pub fn read(text: &[u8]) -> Result<Vec<Pixel>, u32> {
     // Each line with its line feed; what follows the last line feed is a line without one.
     let mut lines = text.split_inclusive(|&byte| byte == b'\n');
     let header = fields(lines.next().unwrap_or(b""), HEADER_COLUMNS).ok_or(NO_HEADER)?;
-    let (width, height) = (header[0], header[1]);
-    let size = size(width, height).ok_or(NO_SIZE)?;
+    let size = header[0] * header[1];
+    if !(1..=MOST_SWATCH_PIXELS).contains(&size) {
+        return Err(NO_SIZE);
+    }
     let pixels: Option<Vec<Pixel>> = lines.map(pixel).collect();
-    let pixels = pixels
+    pixels
         .filter(|pixels| pixels.len() as u64 == size)
-        .ok_or(NO_PIXELS)?;
-    Ok(Image {
-        width,
-        height,
-        pixels,
-    })
+        .ok_or(NO_PIXELS)
 }
 
 fn pixel(line: &[u8]) -> Option<Pixel> {
@@ -58,7 +39,7 @@ fn pixel(line: &[u8]) -> Option<Pixel> {
 }
 
 /// The fields of a line, all of this many columns; none where one of them, or the line, is not as it must be.
-fn fields(line: &[u8], columns: usize) -> Option<Vec<u32>> {
+fn fields(line: &[u8], columns: usize) -> Option<Vec<u64>> {
     let line = line.strip_suffix(b"\n")?;
     if line.len() != LINE {
         return None;
@@ -67,10 +48,10 @@ fn fields(line: &[u8], columns: usize) -> Option<Vec<u32>> {
 }
 
 /// The number that, printed in this many columns, gives exactly this text.
-fn field(text: &[u8]) -> Option<u32> {
+fn field(text: &[u8]) -> Option<u64> {
     let text = std::str::from_utf8(text).ok()?;
     // Read without a sign, which no field of a swatch has.
-    let number: u32 = text.trim_start().parse().ok()?;
+    let number: u64 = text.trim_start().parse().ok()?;
     (printed_field(number, text.len()) == text).then_some(number)
 }
 
@@ -159,11 +140,11 @@ mod tests {
     #[test]
     fn every_other_byte_is_no_digit() {
         for byte in 0..=255u8 {
-            let number = byte.is_ascii_digit().then(|| u32::from(byte - b'0'));
+            let number = byte.is_ascii_digit().then(|| u64::from(byte - b'0'));
             assert_eq!(field(&[b' ', b' ', b' ', byte]), number);
             let number = match byte {
                 b' ' => Some(5),
-                b'1'..=b'9' => Some(10 * u32::from(byte - b'0') + 5),
+                b'1'..=b'9' => Some(10 * u64::from(byte - b'0') + 5),
                 _ => None,
             };
             assert_eq!(field(&[b' ', b' ', byte, b'5']), number);

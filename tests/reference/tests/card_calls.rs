@@ -1,15 +1,20 @@
-//! The grounds and the answers of the card calls of an image without a size and of a text.
+//! The grounds and the answers of the two card calls.
 
 mod common;
-#[path = "common/turned_down.rs"]
-mod turned_down;
 
 use common::CLOSENESSES;
 use reference::calls::*;
 use reference::cards::Entry;
-use turned_down::turned_down;
 
 const BLACK_AND_RED: [u8; 6] = [0, 0, 0, 255, 0, 0];
+
+fn turned_down(number: u32) -> CardAnswer {
+    CardAnswer {
+        number,
+        len: 0,
+        entries: [Entry::default(); MOST_ENTRIES],
+    }
+}
 
 /// The number, with a label for each whole pixel.
 fn number(bytes: &[u8], closeness: i32) -> u32 {

@@ -1,16 +1,17 @@
 //! Labels: those of one byte that are widened, and those of the same cards under the limit of labels of one byte.
 
-#[path = "common/lent.rs"]
-mod lent;
 #[path = "common/mixed.rs"]
 mod mixed;
-#[path = "common/turned_down.rs"]
-mod turned_down;
 
-use lent::lent;
 use mixed::mixed;
 use reference::calls::*;
-use turned_down::turned_down;
+use reference::cards::Entry;
+
+/// Labels as lent, above every label and each another one than the one before.
+fn lent(places: usize) -> Vec<u16> {
+    let label = |place: usize| u16::MAX - (place % 7) as u16;
+    (0..places).map(label).collect()
+}
 
 /// The number, and the labels as they are left.
 fn widened(narrow: &[u8], places: usize) -> (u32, Vec<u16>) {
@@ -70,6 +71,14 @@ fn both(pixels: u32) -> Both {
     Both {
         wide: (carded.answer(&mut wide), wide),
         narrow: (carded.narrow_answer(&mut narrow), narrow),
+    }
+}
+
+fn turned_down(number: u32) -> CardAnswer {
+    CardAnswer {
+        number,
+        len: 0,
+        entries: [Entry::default(); MOST_ENTRIES],
     }
 }
 

@@ -39,19 +39,6 @@ pub fn pixels(swatch: &str) -> Vec<u8> {
     fields.map(|field| field.parse().expect("a byte")).collect()
 }
 
-/// The width and height in a swatch's header.
-pub fn size(swatch: &str) -> [u32; 2] {
-    let header = swatch.lines().next().expect("a header");
-    let (width, height) = header.split_at(6);
-    [width, height].map(|field| field.trim_start().parse().expect("a number"))
-}
-
-/// Labels that no card has, unlike their neighbours in both bytes.
-pub fn unused_labels(places: usize) -> Vec<u16> {
-    let label = |place| u16::MAX - 257 * (place % 241) as u16;
-    (0..places).map(label).collect()
-}
-
 /// This many pixels of a cube of 12 × 12 × 12 colours, one after the other. With 9 or more of each, its card would have
 /// more than 1,000 entries.
 pub fn cube(pixels: usize) -> Vec<u8> {

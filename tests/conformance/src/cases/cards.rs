@@ -2,7 +2,7 @@
 
 use super::pixels::corners;
 use super::{unwritten_labels, unwritten_wide_labels, Case};
-use crate::calls::{Call, Labelling};
+use crate::calls::Call;
 use cloths::full_cards;
 use cloths::random::Random;
 use cloths::yarns::{woven, yarns};
@@ -11,15 +11,15 @@ use reference::calls::{LEAST_CLOSENESS, MOST_CLOSENESS, MOST_PIXELS};
 use reference::cards::Pixel;
 
 const SEED: u64 = 106;
-pub(super) const BLACK: Pixel = [0, 0, 0];
-pub(super) const WHITE: Pixel = [255, 255, 255];
-pub(super) const RED: Pixel = [255, 0, 0];
-pub(super) const GREEN: Pixel = [0, 255, 0];
-pub(super) const BLUE: Pixel = [0, 0, 255];
+const BLACK: Pixel = [0, 0, 0];
+const WHITE: Pixel = [255, 255, 255];
+const RED: Pixel = [255, 0, 0];
+const GREEN: Pixel = [0, 255, 0];
+const BLUE: Pixel = [0, 0, 255];
 /// The most pixels.
 const MOST: usize = MOST_PIXELS as usize;
 /// Shapes to draw from, by name.
-pub(super) const SHAPES: [(&str, CardShape); 10] = [
+const SHAPES: [(&str, CardShape); 10] = [
     ("any pixels", card_shapes::noise),
     ("yarns with noise", card_shapes::clusters),
     ("a cloth", card_shapes::cloth),
@@ -50,12 +50,14 @@ pub fn cases() -> Vec<Case> {
 }
 
 fn lent(what: impl Into<String>, pixels: Vec<u8>, closeness: i32, labels: Vec<u16>) -> Case {
-    let given = Labelling {
-        pixels,
-        closeness,
-        labels,
-    };
-    Case::new(what, Call::Card(given))
+    Case::new(
+        what,
+        Call::Card {
+            pixels,
+            closeness,
+            labels,
+        },
+    )
 }
 
 fn case(what: impl Into<String>, pixels: Vec<u8>, closeness: i32, places: usize) -> Case {
@@ -78,7 +80,7 @@ fn fitting_wide(what: impl Into<String>, pixels: &[Pixel], closeness: i32) -> Ca
 }
 
 /// So many pixels of each colour.
-pub(super) fn runs(runs: &[(Pixel, usize)]) -> Vec<Pixel> {
+fn runs(runs: &[(Pixel, usize)]) -> Vec<Pixel> {
     let runs = runs.iter().map(|&(pixel, count)| vec![pixel; count]);
     runs.flatten().collect()
 }
@@ -351,7 +353,7 @@ fn label_counts() -> Vec<Case> {
 }
 
 /// A card of this many entries: with enough pixels for each, none is joined.
-pub(super) fn full(entries: usize, each: usize) -> Vec<Pixel> {
+fn full(entries: usize, each: usize) -> Vec<Pixel> {
     let colours = full_cards::colours(entries);
     let all: Vec<(Pixel, usize)> = colours.iter().map(|&colour| (colour, each)).collect();
     runs(&all)

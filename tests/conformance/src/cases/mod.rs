@@ -10,7 +10,6 @@ pub mod logs;
 pub mod modes;
 pub mod pixels;
 mod rounds;
-pub mod sized_cards;
 pub mod texts;
 mod turns;
 pub mod verdicts;
