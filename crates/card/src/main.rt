@@ -2,7 +2,7 @@
 // If reading or writing fails, it says so on standard error; a text that could not be read to its end gets no answer.
 #![tactic(auto)]
 
-ghost use Rattle.std.specs.Prelude.{◌≡◌, ◌≤◌, IfOk, OnOk, IfErr, OnErr, length, take};
+ghost use Rattle.std.specs.Prelude.{◌≡◌, IfOk, OnOk, IfErr, OnErr, length, take};
 ghost use Rattle.std.specs.Io.{ReadsAtMost};
 ghost use Rattle.std.specs.Io.KnownBytes.{ReadConsumes};
 ghost use Rattle.card.specs.Program.{most_read, program_answer, HasRoom, ReadsEnough, ReadsPart, PrintsAll, PrintsPart, WritesAnswer, StopsShort};
