@@ -55,7 +55,8 @@ fn read_text<R: Read>(input: &mut R, text: &mut [u8]) -> io::Result<usize>
     Ok(len)
 }
 
-// What is printed for a text.
+// What is printed for a text. Its stack is free again before that is written.
+#[inline(never)]
 #[tactic(auto, using(crate::proofs::Replies::served_reply, crate::proofs::Replies::ground_reply))]
 fn answer(text: &[u8]) -> Printed
     ensures { result ≡ program_answer text.now }
@@ -68,10 +69,11 @@ fn answer(text: &[u8]) -> Printed
 }
 
 // Writes what is printed, by as many writes as it takes. A write that takes nothing has failed.
-fn write<W: Write>(output: &mut W, printed: &Printed) -> io::Result<()>
-    requires { HasRoom printed.now }
-    ensures all { OnOk result (PrintsAll (W.contents output.old) (W.contents output.new) printed.now) }
-    ensures part { OnErr result (PrintsPart (W.contents output.old) (W.contents output.new) printed.now) }
+#[inline(never)]
+fn write<W: Write>(output: &mut W, printed: Printed) -> io::Result<()>
+    requires { HasRoom printed }
+    ensures all { OnOk result (PrintsAll (W.contents output.old) (W.contents output.new) printed) }
+    ensures part { OnErr result (PrintsPart (W.contents output.old) (W.contents output.new) printed) }
 {
     let len = printed.len as usize;
     let mut done = 0;
@@ -101,8 +103,7 @@ fn run<R: Read, W: Write>(input: &mut R, output: &mut W) -> Result<(), Failure>
         Ok(len) => len,
         Err(e) => return Err(Failure::Input(e)),
     };
-    let printed = answer(&text[..len]);
-    match write(output, &printed) {
+    match write(output, answer(&text[..len])) {
         Ok(()) => Ok(()),
         Err(e) => Err(Failure::Output(e)),
     }

@@ -12,16 +12,16 @@ unfolding most_read longest_swatch most_swatch_pixels
 read_text-requires g c = length-replicate {A = ℕ} most_read 0
 
 pub write-requires : goal.write-requires
-write-requires g c = rw c.answer-printed.ensures (answer-room _)
+write-requires g c = rw c.answer.ensures (answer-room _)
 
 pub returns-in-Ok-write-clause-ok : goal.returns-in-Ok-write-clause-ok
 unfolding most_read longest_swatch most_swatch_pixels
 returns-in-Ok-write-clause-ok g c =
     enough _ _ _ (PrintsAll _ _) (omega (arith, c.in-Ok.ensures.prefix.0, c.in-Ok.ensures.prefix.1, c.read_text.auto.text)) c.in-Ok.ensures.bytes
-    (subst (PrintsAll _ _) c.answer-printed.ensures c.in-Ok-write.ensures.all)
+    (subst (PrintsAll _ _) c.answer.ensures c.in-Ok-write.ensures.all)
 
 pub returns-in-Err-write-clause-err : goal.returns-in-Err-write-clause-err
 unfolding most_read longest_swatch most_swatch_pixels
 returns-in-Err-write-clause-err g c =
     enough _ _ _ (PrintsPart _ _) (omega (arith, c.in-Ok.ensures.prefix.0, c.in-Ok.ensures.prefix.1, c.read_text.auto.text)) c.in-Ok.ensures.bytes
-    (subst (PrintsPart _ _) c.answer-printed.ensures c.in-Err-write.ensures.part)
+    (subst (PrintsPart _ _) c.answer.ensures c.in-Err-write.ensures.part)
