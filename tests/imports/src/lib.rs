@@ -1,7 +1,7 @@
 //! Imports that a file of Rattle or antt does not use.
 //!
 //! A name is used if it occurs as a word outside of imports and comments; for an operator such as `◌+◌`, each of its signs
-//! must occur. What `pub use` brings in is passed on, and counts as used.
+//! must occur. What `pub use` brings in is passed on, and counts as used, and so does a trait that is given no name.
 
 use std::collections::HashSet;
 
@@ -34,7 +34,12 @@ impl Language {
 pub fn unused(language: Language, text: &str) -> Vec<String> {
     let lines = text.lines().map(|line| without_comment(language, line));
     let (imports, rest) = parted(&lines.collect::<Vec<_>>());
-    let used: HashSet<&str> = rest.iter().flat_map(|line| words(line)).collect();
+    let mut used: HashSet<&str> = rest.iter().flat_map(|line| words(line)).collect();
+    if language == Language::Rattle {
+        // In `read<R: Read>` there are four words.
+        let parts = used.iter().flat_map(|word| word.split(['<', '>']));
+        used = parts.chain(used.iter().copied()).collect();
+    }
     let names = imports.iter().flat_map(|import| names(import));
     let unused = names.filter(|name| !signs(name).iter().all(|sign| used.contains(sign)));
     unused.map(str::to_string).collect()
@@ -71,20 +76,26 @@ fn parted<'a>(lines: &[&'a str]) -> (Vec<String>, Vec<&'a str>) {
     (imports, rest)
 }
 
-/// The names that an import brings in.
+/// The names that an import brings in. `self` in braces is the module before them.
 fn names(import: &str) -> Vec<&str> {
     let import = import.trim().trim_end_matches(';');
-    if import.split_whitespace().any(|word| word == "pub") {
+    if import.split_whitespace().any(|word| word == "pub") || import.ends_with(" as _") {
         return Vec::new();
     }
     let last = |name: &'_ str| name.rfind([' ', '.', ':']).map_or(0, |at| at + 1);
     match import.split_once('{') {
-        Some((_, listed)) => listed
+        Some((module, listed)) => listed
             .trim_end_matches('}')
             .split(',')
             .map(str::trim)
             .filter(|name| !name.is_empty())
-            .map(|name| &name[name.rfind(' ').map_or(0, |at| at + 1)..])
+            .map(|name| match name {
+                "self" => {
+                    let module = module.trim_end_matches("::");
+                    &module[last(module)..]
+                }
+                _ => &name[name.rfind(' ').map_or(0, |at| at + 1)..],
+            })
             .collect(),
         None => vec![&import[last(import)..]],
     }

@@ -71,3 +71,11 @@ fn names_in_rattle() {
     let text = text.replace("{ c::g(x) }", "{ !Wide(&c) }");
     assert_eq!(unused(Language::Rattle, &text), ["◌<◌"]);
 }
+
+#[test]
+fn modules_and_traits_in_rattle() {
+    let text = "use a::io::{self, Read, Write};\nuse b::fmt::Write as _;\n\nfn f(x: u8) { g(x) }\n";
+    assert_eq!(unused(Language::Rattle, text), ["io", "Read", "Write"]);
+    let text = text.replace("f(x: u8)", "f<R: Read, W: Write>(x: io::Size)");
+    assert_eq!(unused(Language::Rattle, &text), Vec::<String>::new());
+}
