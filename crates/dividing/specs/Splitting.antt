@@ -1,9 +1,9 @@
 -- Splitting a range of pixel numbers level by level. No public promise cites it. Assumes nothing.
---   level_at, levels_left   with so many levels left: the next one; all of them
---   Leaf                  an entry's code and the numbers of its pixels
---   leaves, walked        what splitting a range gives, and walking the ranges of its modes
---   Split                 how the code holds it
---   Divisible, Walkable   what splitting a range and walking its modes ask for
+--   level_at, levels_left  with so many levels left: the next one; all of them
+--   Leaf                   an entry's code and the numbers of its pixels
+--   leaves, walked         what splitting a range gives, and walking the ranges of its modes
+--   Split                  how the code holds it
+--   Divisible, Walkable    what splitting a range and walking its modes ask for
 use Rattle.std.specs.Prelude.{ℕ, zero, suc, ◌+◌, ◌*◌, ◌^◌, ◌<◌, ◌≤◌, ◌≡◌, false, length, take, drop, get_or}
 use mathlib.Core.List.{List, [], ◌∷◌, ◌++◌, map, flat_map}
 use Rattle.std.proofs.lemmas.List.Edits.{sets}

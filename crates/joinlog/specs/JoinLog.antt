@@ -1,11 +1,11 @@
 -- The log of a line's joins: rules J1 to J4. Assumes nothing.
---   joins_made       the joins that a way of joining makes, in turn; made_on_line: those of a line
---   log_of           the numbers that a log has for joins, four for each; line_log: the log of a line
---   same_numbers     whether two logs are the same
---   Follows         joins that follow a way of joining from first to last; joins_applied: what they leave
---   LogSound        what stands behind the log of a line
---   Replayed        what stands behind a log that is followed to its end
---   Departs         what stands behind a log that is not: where it leaves the method
+--   joins_made    the joins that a way of joining makes, in turn; made_on_line: those of a line
+--   log_of        the numbers that a log has for joins, four for each; line_log: the log of a line
+--   same_numbers  whether two logs are the same
+--   Follows       joins that follow a way of joining from first to last; joins_applied: what they leave
+--   LogSound      what stands behind the log of a line
+--   Replayed      what stands behind a log that is followed to its end
+--   Departs       what stands behind a log that is not: where it leaves the method
 use Rattle.std.specs.Prelude.{ℕ, zero, suc, ◌<◌, ◌≡◌, Bool, true, false, cond, ◌&&◌, List, [], ◌∷◌, ◌++◌, eqb, ℤ, pos, negsuc, length, take}
 use Rattle.std.proofs.Math.Option.{Option, none, some}
 use Rattle.lists.specs.Lists.{maybe}

@@ -1,9 +1,9 @@
 -- Rule R9: turning a ring. If one bin is lower than every other, separators and modes follow the turn. Assumes nothing.
---   turned, turned_bin               the ring turned by k bins; the number that bin b has then
---   SingleLowest                    one bin is lower than every other
---   SeparatorsTurn, ContentsKept    separators move with their bins, and so do the bins of each mode
---   TurnsAlong                      these two, how many separators there are, and the numbers of the modes
---   TurningKeeps, TwoLowest         every ring with a single lowest bin turns along; one with two lowest bins that does not
+--   turned, turned_bin            the ring turned by k bins; the number that bin b has then
+--   SingleLowest                  one bin is lower than every other
+--   SeparatorsTurn, ContentsKept  separators move with their bins, and so do the bins of each mode
+--   TurnsAlong                    these two, how many separators there are, and the numbers of the modes
+--   TurningKeeps, TwoLowest       every ring with a single lowest bin turns along; one with two lowest bins that does not
 use Rattle.std.specs.Prelude.{ℕ, ◌+◌, ◌-◌, ◌%◌, ◌≤◌, ◌<◌, ◌≡◌, List, [], ◌∷◌, ◌++◌, map, pos, length, take, drop}
 use Rattle.lists.specs.Lists.{total, contains}
 use Rattle.verdict.specs.Test.{Closeness}

@@ -1,7 +1,7 @@
 -- D3 for a card. Assumes nothing.
---   counts_under             a pixel counts under an entry, by the entry's kind and mode numbers
---   HistogramSound          one histogram of the card; AllSound: this one and every one below it
---   OneEntry, SoundCard     D3 for one pixel; for the card
+--   counts_under         a pixel counts under an entry, by the entry's kind and mode numbers
+--   HistogramSound       one histogram of the card; AllSound: this one and every one below it
+--   OneEntry, SoundCard  D3 for one pixel; for the card
 use Rattle.std.specs.Prelude.{ℕ, suc, ◌+◌, ◌*◌, ◌≤◌, ◌<◌, ◌≡◌, Bool, cond, List, [], ◌∷◌, map, eqb, length, get_or}
 use Rattle.lists.specs.Lists.{total, count_if, ExactlyOne}
 use Rattle.pixel.specs.declared.Pixel.{Pixel}

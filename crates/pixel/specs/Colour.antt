@@ -1,8 +1,8 @@
 -- The measures of a pixel: rules M1 to M9. Assumes nothing.
---   chroma_squared                            Q; is_grey: by Q
---   intensity_bin, saturation_bin, hue_bin      the three measures; measures_of: all of them
---   hue_point, quarter, turned_back, hue_of     (u, v), its quarter, (a, b), and the bin of a coloured pixel; hue_at: the bin once it is turned back
---   saturation_of, tangents_passed, turned_of   the steps on the way: from Q; from (a, b); quarter, a and b in one
+--   chroma_squared                             Q; is_grey: by Q
+--   intensity_bin, saturation_bin, hue_bin     the three measures; measures_of: all of them
+--   hue_point, quarter, turned_back, hue_of    (u, v), its quarter, (a, b), and the bin of a coloured pixel; hue_at: the bin once it is turned back
+--   saturation_of, tangents_passed, turned_of  the steps on the way: from Q; from (a, b); quarter, a and b in one
 use Rattle.std.specs.Prelude.{ℕ, zero, suc, ◌+◌, ◌*◌, ◌-◌, ◌/◌, Bool, cond, ◌&&◌, List, [], ◌∷◌, leb, ℤ, pos, neg_ℤ, nat_abs}
 use Rattle.std.proofs.Math.IntN.{sub_ℕ}
 use Rattle.std.specs.Int.Signed.{le_z, lt_z}

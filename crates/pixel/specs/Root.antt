@@ -1,7 +1,7 @@
 -- Approximating a square root, for the saturation bin. No public promise cites it. Assumes nothing.
---   RootWithin   how near a number is to the root
---   Rooted       a table of roots
---   line_of       straight lines that run near the root, in 1024ths: for 0 to 39, 40 to 199, 200 to 699, and 700 to 1734
+--   RootWithin  how near a number is to the root
+--   Rooted      a table of roots
+--   line_of     straight lines that run near the root, in 1024ths: for 0 to 39, 40 to 199, 200 to 699, and 700 to 1734
 use Rattle.std.specs.Prelude.{ℕ, zero, suc, ◌+◌, ◌*◌, ◌≤◌, ◌<◌, ◌≡◌, List, length, get_or}
 use Rattle.pixel.specs.declared.Line.{Line}
 use Rattle.pixel.specs.Colour.{saturation_count}

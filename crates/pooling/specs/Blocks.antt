@@ -1,7 +1,7 @@
 -- The blocks of an increasing or decreasing fit: rules P1 to P4. Assumes nothing.
 --   blocks, fitted     the blocks of a stretch; each bin's block
 --   places             each bin's block with the number of the block's first bin
---   steps_to, StepsTo   a strict step in the direction of the fit, as a test and as a statement; Strict: at every step
+--   steps_to, StepsTo  a strict step in the direction of the fit, as a test and as a statement; Strict: at every step
 use Rattle.std.specs.Prelude.{Bool, true, false, cond, List, [], ◌∷◌, ◌++◌, ℕ, ◌+◌, ◌*◌, ◌<◌, ltb, replicate}
 -- the types that the code shares. P1: a block has a sum and a length, which stand for its mean. A place is a bin's block with the number of the block's first bin
 pub use Rattle.pooling.specs.declared.Block.{Block}

@@ -1,7 +1,7 @@
 -- How the code holds blocks while it pools: as a stack in two arrays. No public promise cites it. Assumes nothing.
---   stack_of            the blocks that the first places hold, in the order of the bins
---   HeldFrom           they are those of the bins from one bin to the last
---   sum_in, bins_in      the sum of all its blocks, and how many bins they have; bounds on both keep the code's numbers small
+--   stack_of         the blocks that the first places hold, in the order of the bins
+--   HeldFrom         they are those of the bins from one bin to the last
+--   sum_in, bins_in  the sum of all its blocks, and how many bins they have; bounds on both keep the code's numbers small
 use Rattle.std.specs.Prelude.{◌≡◌, List, [], ◌∷◌, ℕ, zero, suc, ◌+◌, drop, get_or}
 use Rattle.pooling.specs.Blocks.{Block, Direction, blocks}
 

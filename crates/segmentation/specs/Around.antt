@@ -1,7 +1,7 @@
 -- Joins all round a ring: rules R4 and R5. Its modes are segments by places from the opening on, and a place a turn later is the same bin. Assumes nothing.
---   later, twice     a mode a turn later; the modes of a ring and all of them a turn later: a run that goes past the last mode is a run of these
---   next_round        the next join anywhere round the ring, if any
---   join_round        the modes after it
+--   later, twice  a mode a turn later; the modes of a ring and all of them a turn later: a run that goes past the last mode is a run of these
+--   next_round    the next join anywhere round the ring, if any
+--   join_round    the modes after it
 use Rattle.std.specs.Prelude.{ℕ, ◌+◌, ◌-◌, true, List, ◌++◌, map, length, take, drop}
 use Rattle.std.proofs.Math.Option.{Option}
 use Rattle.verdict.specs.Test.{Closeness}

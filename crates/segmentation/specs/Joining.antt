@@ -1,9 +1,9 @@
 -- Joins, and the modes of a line: rules S3 to S7 and S10. Assumes nothing.
 --   Reader         the bins of a stretch, from bin i to bin j; of a line, its parts
 --   rise_of, fall_of the two stretches of a run of n segments from number i; of a run of one, a mode's rise and fall
---   Join           a run that may be joined, and the cost that counts
---   next_among      the next join, if any, along a line or round a ring; next_join: of a line
---   join_all        what is left when there is none; line_modes: of a line
+--   Join        a run that may be joined, and the cost that counts
+--   next_among  the next join, if any, along a line or round a ring; next_join: of a line
+--   join_all    what is left when there is none; line_modes: of a line
 use Rattle.std.specs.Prelude.{ℕ, zero, suc, ◌+◌, ◌-◌, Bool, false, cond, List, [], ◌∷◌, ◌++◌, map, length, take, drop, ℤ, pos}
 use Rattle.std.proofs.Math.Option.{Option}
 use Rattle.std.specs.Int.Signed.{lt_z}

@@ -1,8 +1,8 @@
 -- What reading a swatch hands back: grounds 1, 2 and 3, in their order. Assumes nothing.
---   given                       a value that may be missing, as the code hands it back
+--   given                        a value that may be missing, as the code hands it back
 --   colour_field                 a field of 0 to 255
---   swatch_number, reading_of     the number of a text; its number and how many pixels it has
---   longest_swatch, LongReading     how many bytes the longest swatch has; how longer texts are read
+--   swatch_number, reading_of    the number of a text; its number and how many pixels it has
+--   longest_swatch, LongReading  how many bytes the longest swatch has; how longer texts are read
 use Rattle.std.specs.Prelude.{ℕ, suc, ◌*◌, ◌<◌, ◌≡◌, Bool, cond, ◌||◌, List, leb, ltb, eqb, length, take}
 use Rattle.std.proofs.Math.Option.{Option, none, some}
 use Rattle.lists.specs.Lists.{maybe, missing}

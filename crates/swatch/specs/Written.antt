@@ -1,7 +1,7 @@
 -- Texts mean what they show: what is written in fields is read back. Each statement is proved in the file of the same name under proofs/. Assumes nothing.
---   FieldRead                    a number in its columns is read back
---   written_swatch, SwatchRead    the text of a swatch; it is read back
---   figures_in, CardRead          all fields of a printed text, line by line; those of a card are its figures
+--   FieldRead                   a number in its columns is read back
+--   written_swatch, SwatchRead  the text of a swatch; it is read back
+--   figures_in, CardRead        all fields of a printed text, line by line; those of a card are its figures
 use Rattle.std.specs.Prelude.{ℕ, ◌+◌, ◌*◌, ◌/◌, ◌^◌, ◌≤◌, ◌<◌, ◌≡◌, cond, ◌&&◌, eqb, pos, length, get_or, ◌≤ℤ◌}
 use mathlib.Core.List.{List, [], ◌∷◌, ◌++◌, map, flat_map}
 use Rattle.std.proofs.Math.Option.{Option, none, some}

@@ -101,7 +101,7 @@ by_blocks {h = h} {bs = bs} k i j o l G f g =
     by_cond G (eqb (place_of bs i).start (place_of bs j).start) (mass_within (place_of bs i) i j) (mass_across h (place_of bs i) (place_of bs j) i j)
     (λ e. f P Q (eqb-true _ _ e)) (λ e. g P Q (eqb-false _ _ e))
 
--- A-as-D = B·(the sum of the levels over the part)
+-- A·D = B·(the sum of the levels over the part)
 pub mass-levels : {h : List ℕ} {bs : List Block} → CutInto h bs → (i j : ℕ) → i ≤ j → j < length h → (D : ℕ) → Splits D bs
     → (fitted_mass h bs i j).num * D ≡ (fitted_mass h bs i j).den * total (part i j (levels D bs))
 mass-levels {bs = bs} k i j o l D w =

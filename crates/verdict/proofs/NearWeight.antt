@@ -1,5 +1,5 @@
--- A part whose count is near its fitted mass has a small weight. With D = A·(NB − A) and d = |kB − A|, X·M^(S-as-N) ≤ Y·(M + 1)^(S-as-N) for two pairs of M and S
--- (`Steps`); so where S-as-H ≤ M·c the weight is at most 2N + 3·c·N·units/2H. Assumes nothing.
+-- A part whose count is near its fitted mass has a small weight. With D = A·(NB − A) and d = |kB − A|, X·M^(S·N) ≤ Y·(M + 1)^(S·N) for two pairs of M and S
+-- (`Steps`); so where S·H ≤ M·c the weight is at most 2N + 3·c·N·units/2H. Assumes nothing.
 use Prim.Native.Nat.{ℕ, suc, ◌+◌, ◌*◌, ◌-◌, ◌^◌, ◌≤◌, ◌<◌}
 use mathlib.Core.Path.{◌≡◌, sym, ap, ◌∙◌}
 use mathlib.Core.Logic.{inl, inr}

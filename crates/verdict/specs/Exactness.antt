@@ -76,7 +76,7 @@ module _ (e : Closeness) (w : Direction) (h : List ℕ) where
     pub rejection : rejected e w h ≡ true → (i : ℕ) × (j : ℕ) × Above i j
     pub acceptance : rejected e w h ≡ false → ¬ ByMissingStep → (i j : ℕ) → i ≤ j → j < length h → BelowBar i j
 
-  -- T2: A/B is the sum of the fitted means over the part: A-as-D = B·(that sum times D), for every common denominator D
+  -- T2: A/B is the sum of the fitted means over the part: A·D = B·(that sum times D), for every common denominator D
   pub record MassOfFit (i j : ℕ) : Type 0 where
     pub positive : 0 < (fitted_mass h (blocks w h) i j).den
     pub mass : (D : ℕ) → 0 < D → CommonDenominator D (means (blocks w h))

@@ -1,7 +1,7 @@
 -- When a part is known, without a logarithm, to weigh no more than the best part so far. No public promise cites it. Assumes nothing.
---   gap                       d = |kB − A|: how far the count is from the fitted mass
---   fitted_room, count_room     A·(NB − A) and kB·(NB − kB): the larger they are beside d², the smaller the weight
---   a threshold c, t          s is small beside a room M if s ≤ ⌊⌊M/16⌋·c/2^t⌋
+--   gap                      d = |kB − A|: how far the count is from the fitted mass
+--   fitted_room, count_room  A·(NB − A) and kB·(NB − kB): the larger they are beside d², the smaller the weight
+--   a threshold c, t         s is small beside a room M if s ≤ ⌊⌊M/16⌋·c/2^t⌋
 use Rattle.std.specs.Prelude.{ℕ, ◌+◌, ◌*◌, ◌-◌, ◌/◌, ◌^◌, ◌≤◌, ◌<◌, ◌≡◌, Bool, true, cond, ◌||◌, List, leb, ltb, pos, ◌≤ℤ◌}
 use Rattle.std.specs.Int.Signed.{lt_z}
 use Rattle.lists.specs.Lists.{total, part}
