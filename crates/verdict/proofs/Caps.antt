@@ -6,13 +6,13 @@ use mathlib.Core.Logic.{◌⊎◌, inl, inr, ⊎_elim}
 use mathlib.Core.List.{List}
 use native.Mathlib.Omega.{arith}
 use lib.Dec.{leb-suc-suc}
-use lib.ListN.{length, get_or}
+use lib.ListN.{length}
 use lib.IntN.{ℤ, pos, negsuc, suc_ℤ, pred_ℤ, neg_ℤ, ◌+ℤ◌, ◌-ℤ◌, +ℤ_idr, +ℤ-suc_ℤ, suc_ℤ-+ℤ, +ℤ-pred_ℤ, -ℤ-+ℤ_cancel, +ℤ-neg_ℤ_cancel}
-use lib.Signed.{lt_z, mag, ◌≤ℤ◌, ≤ℤ_refl}
+use lib.Signed.{lt_z, le_z, mag, ◌≤ℤ◌, ≤ℤ_refl}
 use borrow.Author.Tests.{lt-ltb, le-ltb}
 use Rattle.lists.specs.Lists.{total, part}
 use Rattle.lists.proofs.Cases.{by_cond, by_order}
-use Rattle.lists.proofs.Signed.{le-trans-ℤ, lt-le-ℤ, nlt-le-ℤ, le-antisym-ℤ, le-lt-ℤ, less-size}
+use Rattle.lists.proofs.Signed.{le-trans-ℤ, lt-le-ℤ, nlt-le-ℤ, lt_no, le-antisym-ℤ, le-lt-ℤ, less-size}
 use Rattle.pooling.specs.declared.Block.{Block}
 use Rattle.pooling.specs.declared.Place.{Place}
 use Rattle.pooling.specs.Blocks.{Direction, blocks}
@@ -22,7 +22,9 @@ use Rattle.verdict.specs.Test.{fitted_mass, part_weight, largest_weight, bar, co
 use Rattle.verdict.specs.Settings.{last_setting, closeness_of}
 use Rattle.verdict.specs.declared.Best.{Best}
 use Rattle.verdict.specs.Near.{Spares, NearUpTo}
-use Rattle.verdict.specs.Scratch.{PlacesHeld, Capped, Attained, BestOf, EndingAt, first_of, end_of, Turn, Part}
+use Rattle.verdict.specs.declared.parts.Turn.{Turn}
+use Rattle.verdict.specs.declared.parts.Turn.TheVariants.{WithinBlocks, AcrossBlocks}
+use Rattle.verdict.specs.Scratch.{PlacesHeld, start_of, Capped, Attained, BestOf, EndingAt, first_of, end_of, Visits, Part}
 use Rattle.verdict.proofs.Range.{in-range}
 use Rattle.verdict.proofs.Largest.{largest-part, part-largest}
 use Rattle.verdict.proofs.Masses.{bin-place}
@@ -81,17 +83,17 @@ pub whole-attained : (w : Direction) (h : List ℕ) → 1 ≤ length h → {r : 
 whole-attained w h some e = record { first = 0; last = length h - 1; ends = (omega arith, omega arith); weight = e ∙ sym (whole-weight w h some) }
 
 -- ---- a bin's block starts at the bin or before it
-pub start-le : (w : Direction) (h starts sums lens : List ℕ) (j : ℕ) → PlacesHeld w h starts sums lens → j < length h → get_or starts j 0 ≤ j
-start-le w h starts sums lens j held l = omega (arith, ap (λ (p : Place). p.start) (held j l), bin-place (blocks-cut w h) j l)
+pub start-le : (w : Direction) (h : List ℕ) (ps : List Place) (j : ℕ) → PlacesHeld w h ps → j < length h → start_of ps j ≤ j
+start-le w h ps j held l = omega (arith, ap (λ (p : Place). p.start) (held j l), bin-place (blocks-cut w h) j l)
 
-pub end-le : (within : Bool) (start j : ℕ) → start ≤ j → end_of within start j ≤ suc j
-end-le true start j l = omega arith
-end-le false start j l = omega arith
+pub end-le : (turn : Turn) (start j : ℕ) → start ≤ j → end_of turn start j ≤ suc j
+end-le WithinBlocks start j l = omega arith
+end-le AcrossBlocks start j l = omega arith
 
 -- a part that a turn visits begins at its last bin or before it
-pub turn-ordered : (w : Direction) (h starts sums lens : List ℕ) (within : Bool) (i j : ℕ) → PlacesHeld w h starts sums lens → Turn within starts (length h) i j → i ≤ j
-turn-ordered w h starts sums lens true i j held v = omega arith
-turn-ordered w h starts sums lens false i j held v = omega (arith, start-le w h starts sums lens j held v.0)
+pub turn-ordered : (w : Direction) (h : List ℕ) (ps : List Place) (turn : Turn) (i j : ℕ) → PlacesHeld w h ps → Visits turn ps (length h) i j → i ≤ j
+turn-ordered w h ps WithinBlocks i j held v = omega arith
+turn-ordered w h ps AcrossBlocks i j held v = omega (arith, start-le w h ps j held v.0)
 
 -- ---- near parts are no better than the best so far
 pub near-no-better : (w : Direction) (h : List ℕ) → Small h → (b : Best) → Spares (total h) b → (j first end : ℕ) → j < length h → end ≤ suc j
@@ -111,8 +113,8 @@ module _ (h : List ℕ) (bs : List Block) (limit : ℤ) where
   best-same b within = record { attained = b.attained; bounds = λ e i j v. b.bounds e i j (within i j v) }
 
   -- the limit is reached: the others need no visit
-  pub best-stops : {some all : ℕ → ℕ → Type 0} {r : ℤ} → BestOf h bs limit some r → lt_z r limit ≡ false → BestOf h bs limit all r
-  best-stops b e = record { attained = b.attained; bounds = λ f i j v. absurd (false≢true (sym e ∙ f)) }
+  pub best-stops : {some all : ℕ → ℕ → Type 0} {r : ℤ} → BestOf h bs limit some r → le_z limit r ≡ true → BestOf h bs limit all r
+  best-stops {r = r} b e = record { attained = b.attained; bounds = λ f i j v. absurd (false≢true (sym (lt_no r limit (record { le = rw e tt })) ∙ f)) }
 
   -- more are visited, and the best is raised
   pub best-raised : {some more all : ℕ → ℕ → Type 0} {r s : ℤ} → BestOf h bs limit some r → r ≤ℤ s → BestOf h bs limit more s
@@ -159,16 +161,16 @@ module _ (h : List ℕ) (bs : List Block) (limit : ℤ) where
   }
 
   -- the parts of one bin more, in a turn
-  pub best-bin : (within : Bool) (starts : List ℕ) (j : ℕ) {r s : ℤ} → BestOf h bs limit (Turn within starts j) r → r ≤ℤ s
-      → BestOf h bs limit (EndingAt j (first_of within (get_or starts j 0)) (end_of within (get_or starts j 0) j)) s → BestOf h bs limit (Turn within starts (j + 1)) s
-  best-bin within starts j b u c =
+  pub best-bin : (turn : Turn) (ps : List Place) (j : ℕ) {r s : ℤ} → BestOf h bs limit (Visits turn ps j) r → r ≤ℤ s
+      → BestOf h bs limit (EndingAt j (first_of turn (start_of ps j)) (end_of turn (start_of ps j) j)) s → BestOf h bs limit (Visits turn ps (j + 1)) s
+  best-bin turn ps j b u c =
       best-raised b u c (λ i m v. by_order m j (λ l. inl (l, v.1, v.2)) (λ l. let e : m ≡ j = omega arith in inr (e, rw e at v.1, rw e at v.2)))
 
   -- both turns
-  pub best-turns : (starts : List ℕ) {r s : ℤ} → BestOf h bs limit (Turn true starts (length h)) r → r ≤ℤ s
-      → BestOf h bs limit (Turn false starts (length h)) s → BestOf h bs limit (Part h) s
-  best-turns starts b u c =
-      best-raised b u c (λ i j v. by_order i (get_or starts j 0) (λ l. inr (v.1, omega arith, l)) (λ l. inl (v.1, l, omega arith)))
+  pub best-turns : (ps : List Place) {r s : ℤ} → BestOf h bs limit (Visits WithinBlocks ps (length h)) r → r ≤ℤ s
+      → BestOf h bs limit (Visits AcrossBlocks ps (length h)) s → BestOf h bs limit (Part h) s
+  best-turns ps b u c =
+      best-raised b u c (λ i j v. by_order i (start_of ps j) (λ l. inr (v.1, omega arith, l)) (λ l. inl (v.1, l, omega arith)))
 
   -- all are visited: the best is the largest where that is below the limit, else it reaches the limit
   module _ (some : 0 < length h) (r : ℤ) (b : BestOf h bs limit (Part h) r) where

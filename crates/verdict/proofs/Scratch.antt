@@ -1,7 +1,7 @@
 -- The tables of a stretch hold what the code reads from them: running totals, places, and what follows for the two ends of a part. Assumes nothing.
 use Prim.Native.Nat.{ℕ, suc, ◌+◌, ◌-◌, ◌≤◌, ◌<◌}
 use mathlib.Core.Path.{◌≡◌, sym, ap, ap₂, ◌∙◌}
-use mathlib.Core.List.{List, map}
+use mathlib.Core.List.{List}
 use native.Mathlib.Nat.{le_refl}
 use native.Mathlib.Numerals.{add-one}
 use native.Mathlib.Omega.{arith}
@@ -11,13 +11,15 @@ use Rattle.lists.specs.Lists.{total, part, over}
 use Rattle.lists.proofs.Cases.{last_or}
 use Rattle.lists.proofs.Sums.{total-more}
 use Rattle.lists.proofs.Parts.{total-take-add}
+use Rattle.lists.proofs.Buffers.{over-at}
 use Rattle.pooling.specs.declared.Place.{Place}
 use Rattle.pooling.specs.Blocks.{Direction, blocks, places}
 use Rattle.pooling.proofs.Cuts.{begins-fits, PlaceOf, place-sum-le}
-use Rattle.pooling.proofs.Places.{place-covers, places-apart, places-read}
+use Rattle.pooling.proofs.Places.{place-covers, places-apart, places-length}
 use Rattle.pooling.proofs.Laws.{blocks-cut}
 use Rattle.verdict.specs.Test.{place_of, mass_within, mass_across, fitted_mass}
-use Rattle.verdict.specs.Scratch.{RunningTotals, PlacesHeld, Across}
+use Rattle.verdict.specs.declared.parts.Turn.TheVariants.{WithinBlocks, AcrossBlocks}
+use Rattle.verdict.specs.Scratch.{RunningTotals, PlacesHeld, start_of, Across, Visits}
 use Rattle.verdict.proofs.Masses.{bin-place, mass-same, mass-apart}
 
 -- ---- the running totals, filled from the first bin on
@@ -53,18 +55,21 @@ pub running-part : (h before : List ℕ) (i j : ℕ) → i ≤ j → j < length 
 unfolding part
 running-part h before i j a b r = rw add-one (running-between h before i (suc j) (omega arith) b r)
 
--- ---- the three lists that a fit fills hold each bin's place
-pub places-held : (w : Direction) (h starts sums lens a b c : List ℕ)
-    → starts ≡ over (map (λ (p : Place). p.start) (places w h)) a
-    → sums ≡ over (map (λ (p : Place). p.block.sum) (places w h)) b
-    → lens ≡ over (map (λ (p : Place). p.block.len) (places w h)) c
-    → PlacesHeld w h starts sums lens
+-- ---- the list that a fit fills holds each bin's place
+pub places-held : (w : Direction) (h : List ℕ) (ps buffer : List Place) → ps ≡ over (places w h) buffer → PlacesHeld w h ps
 unfolding place_of places
-places-held w h starts sums lens a b c e f g i l =
-    let s = ap (λ (xs : List ℕ). get_or xs i 0) e ∙ places-read w h (λ p. p.start) a i l in
-    let t = ap (λ (xs : List ℕ). get_or xs i 0) f ∙ places-read w h (λ p. p.block.sum) b i l in
-    let u = ap (λ (xs : List ℕ). get_or xs i 0) g ∙ places-read w h (λ p. p.block.len) c i l in
-    λ k. record { start = s k; block = record { sum = t k; len = u k } }
+places-held w h ps buffer e i l = rw e (over-at (places w h) buffer i _ _ (omega (arith, places-length w h)))
+
+-- where the block of bin j begins, and the parts that a turn visits before and behind that
+module _ (w : Direction) (h : List ℕ) (ps : List Place) (j : ℕ) (held : PlacesHeld w h ps) (q : Place) (e : q ≡ place_of (blocks w h) j) (i : ℕ) where
+  held-start : j < length h → start_of ps j ≡ q.start
+  held-start l = ap (λ (p : Place). p.start) (held j l ∙ sym e)
+
+  pub visited-within : Visits WithinBlocks ps (length h) i j → q.start ≤ i
+  visited-within v = omega (arith, v.1, held-start v.0)
+
+  pub visited-across : Visits AcrossBlocks ps (length h) i j → i < q.start
+  visited-across v = omega (arith, v.2, held-start v.0)
 
 -- ---- p and q, the places of bins i and j
 module _ (w : Direction) (h : List ℕ) (i : ℕ) (p : Place) (e : p ≡ place_of (blocks w h) i) where

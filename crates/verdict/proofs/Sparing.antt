@@ -8,6 +8,8 @@ use lib.IntN.{ℤ, pos}
 use lib.Signed.{◌≤ℤ◌}
 use lib.Pow.{pow-add, pow_pos}
 use native.Mathlib.Omega.{arith}
+use Rattle.std.specs.Prelude.{min}
+use Rattle.std.proofs.Math.Nat.{min-le_left, min-le_right}
 use native.Mathlib.Nat.{mul_comm, zero-mul, le_trans, le_refl, le_of_eq, le_of_lt, lt_of_lt_of_le, mul-le-mul, mul-le-mul_right, mul-pos, div-mul-le_self, mod-le, zero-div}
 use borrow.Author.Tests.{leb-true, ltb-true, ltb-false}
 use Rattle.lists.proofs.Cases.{by_cond}
@@ -18,7 +20,7 @@ use Rattle.verdict.specs.declared.Mass.{Mass}
 use Rattle.verdict.specs.declared.Threshold.{Threshold}
 use Rattle.verdict.specs.Test.{weight}
 use Rattle.verdict.specs.Exactness.{observed, expected, LogsDefined}
-use Rattle.verdict.specs.Near.{gap, fitted_room, count_room, smaller_of, is_small, is_near}
+use Rattle.verdict.specs.Near.{gap, fitted_room, count_room, is_small, is_near}
 use Rattle.verdict.proofs.Terms.{weight-zero}
 use Rattle.verdict.proofs.Range.{positive-left, four-product}
 use Rattle.verdict.proofs.Steps.{steps, steps_twice}
@@ -85,12 +87,6 @@ steps-half d = omega (arith, steps_twice d)
 steps-some : (d : ℕ) → 0 < d → 0 < steps d
 steps-some d h = omega (arith, steps_twice d, mul-pos h h)
 
-pub smaller-left : (x y : ℕ) → smaller_of x y ≤ x
-smaller-left x y = by_cond (λ (z : ℕ). z ≤ x) (ltb x y) x y (λ e. le_refl x) (λ e. ltb-false x y e)
-
-smaller-right : (x y : ℕ) → smaller_of x y ≤ y
-smaller-right x y = by_cond (λ (z : ℕ). z ≤ y) (ltb x y) x y (λ e. le_of_lt (ltb-true x y e)) (λ e. le_refl y)
-
 -- ---- what is spared, where a weight b lies `above` over 2n, and the threshold comes from that
 module _ (n above : ℕ) (t : Threshold) (b : ℤ) (least : pos 0 ≤ℤ b) (reached : 0 < above → pos (above + 2 * n) ≤ℤ b)
     (most : 3 * (t.factor * (n * units_per_bit)) ≤ above * (2 ^ t.shift * 32)) (some : 0 < t.factor → 0 < above) where
@@ -108,11 +104,11 @@ module _ (n above : ℕ) (t : Threshold) (b : ℤ) (least : pos 0 ≤ℤ b) (rea
     apart_by zero z e = rw (weight-zero n k m (omega arith) r.partial) least
     apart_by (suc d) z e =
         let p : 0 < gap k m = omega arith in
-        let M = smaller_of (fitted_room n m) (count_room n k m) in
+        let M = min (fitted_room n m) (count_room n k m) in
         ⊎_elim
         (λ f. spared-by (fitted_room n m) (gap k m * gap k m) (mul-pos p p) f (observed-one n k m r))
         (λ f. spared-by M (steps (gap k m)) (steps-some (gap k m) p) (rw (steps-half (gap k m)) at f)
-        (λ q. observed-steps n k m r M q (smaller-left (fitted_room n m) (count_room n k m)) (smaller-right (fitted_room n m) (count_room n k m))))
+        (λ q. observed-steps n k m r M q (min-le_left (fitted_room n m) (count_room n k m)) (min-le_right (fitted_room n m) (count_room n k m))))
         (either_true (is_small (gap k m * gap k m) (fitted_room n m) t) (is_small (gap k m * (gap k m + 1) / 2) M t) e)
 
   pub spared : (k : ℕ) (m : Mass) → LogsDefined n k m → is_near n k m t ≡ true → weight n k m ≤ℤ b

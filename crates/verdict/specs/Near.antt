@@ -2,7 +2,7 @@
 --   gap                      d = |kB − A|: how far the count is from the fitted mass
 --   fitted_room, count_room  A·(NB − A) and kB·(NB − kB): the larger they are beside d², the smaller the weight
 --   a threshold c, t         s is small beside a room M if s ≤ ⌊⌊M/16⌋·c/2^t⌋
-use Rattle.std.specs.Prelude.{ℕ, ◌+◌, ◌*◌, ◌-◌, ◌/◌, ◌^◌, ◌≤◌, ◌<◌, ◌≡◌, Bool, true, cond, ◌||◌, List, leb, ltb, pos, ◌≤ℤ◌}
+use Rattle.std.specs.Prelude.{ℕ, ◌+◌, ◌*◌, ◌-◌, ◌/◌, ◌^◌, ◌≤◌, ◌<◌, ◌≡◌, Bool, true, cond, ◌||◌, List, leb, min, pos, ◌≤ℤ◌}
 use Rattle.std.specs.Int.Signed.{lt_z}
 use Rattle.lists.specs.Lists.{total, part}
 use Rattle.pooling.specs.declared.Block.{Block}
@@ -22,9 +22,6 @@ fitted_room n m = m.num * (n * m.den - m.num)
 abbrev pub count_room : ℕ → ℕ → Mass → ℕ
 count_room n k m = k * m.den * (n * m.den - k * m.den)
 
-abbrev pub smaller_of : ℕ → ℕ → ℕ
-smaller_of x y = cond (ltb x y) x y
-
 -- what the machine can work with
 pub record Usable (t : Threshold) : Type 0 where
   pub factor : t.factor < 64
@@ -37,7 +34,7 @@ is_small s room t = leb s (room / 2 ^ 4 * t.factor / 2 ^ t.shift)
 unfoldable pub is_near : ℕ → ℕ → Mass → Threshold → Bool
 is_near n k m t =
     is_small (gap k m * gap k m) (fitted_room n m) t
-    || is_small (gap k m * (gap k m + 1) / 2) (smaller_of (fitted_room n m) (count_room n k m)) t
+    || is_small (gap k m * (gap k m + 1) / 2) (min (fitted_room n m) (count_room n k m)) t
 
 -- the best weight so far, 0 or more, with a threshold that spares each near part of a stretch of n counts its logarithms
 pub record Spares (n : ℕ) (b : Best) : Type 0 where

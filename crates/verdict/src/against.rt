@@ -14,12 +14,10 @@ fn against(rising: bool, a: u32, b: u32) -> bool
 pub fn step_against(h: &[u32], rising: bool) -> bool
     ensures { result ≡ step_against (direction rising) h.now }
 {
-    let mut i = 1;
-    while i < h.len() {
+    for i in 1..h.len() {
         if against(rising, h[i - 1], h[i]) {
             return true;
         }
-        i += 1;
     }
     false
 }

@@ -8,32 +8,45 @@ ghost use Rattle.verdict.specs.Test.{cost};
 ghost use Rattle.verdict.specs.Settings.{last_setting, closeness_of};
 ghost use Rattle.verdict.specs.Scratch.{Capped, BestOf, Part};
 
-use crate::parts::{MOST_TOTALS, running_totals};
-use crate::search::best_weight;
-use crate::signed::{is_below, less, sum};
+use crate::parts::{MOST_TOTALS, Stretch, running_totals};
+use crate::search::Search;
 use crate::weights::bar;
 use logarithm::SHEET_SIZE;
-use pooling::{MOST_BINS, fit_places};
+use pooling::{Block, MOST_BINS, Place, fit_places};
 
 // A cap that no cost reaches: 2^62 - 1.
 const NO_CAP: i64 = 4611686018427387903;
 
+// What stands for each bin's place before the fit is made.
+const NO_PLACE: Place = Place {
+    start: 0,
+    block: Block { sum: 0, len: 0 },
+};
+
 // The best weight of the parts of a stretch, up to the limit. The whole stretch weighs 0; where that is enough, no fit is made.
-fn best_of(sheet: &[u32; SHEET_SIZE], h: &[u32], rising: bool, limit: i64) -> i64
+fn best_of<'a>(sheet: &'a [u32; SHEET_SIZE], h: &'a [u32], rising: bool, limit: i64) -> i64
     requires small { Small h.now }
     requires in_bounds { (1 ≤ length h.now) × (sheet.now ≡ log_sheet) }
     ensures { BestOf h.now (blocks (direction rising) h.now) limit (Part h.now) result }
 {
-    if !is_below(0, limit) {
+    if limit <= 0 {
         return 0;
     }
     let mut before = [0u32; MOST_TOTALS];
-    let mut starts = [0u32; MOST_BINS];
-    let mut sums = [0u32; MOST_BINS];
-    let mut lens = [0u32; MOST_BINS];
+    let mut places = [NO_PLACE; MOST_BINS];
     running_totals(h, &mut before);
-    fit_places(h, rising, &mut starts, &mut sums, &mut lens);
-    best_weight(sheet, h, rising, &before, &starts, &sums, &lens, limit)
+    fit_places(h, rising, &mut places);
+    let search = Search {
+        sheet,
+        stretch: Stretch {
+            h,
+            rising,
+            before: &before,
+            places: &places,
+        },
+        limit,
+    };
+    search.best_weight()
 }
 
 // The cost of a stretch of one bin or more, if that is below the cap; otherwise the cap or more.
@@ -50,8 +63,7 @@ pub fn capped_cost(
     ensures { Capped cap (cost (closeness_of setting) (direction rising) h.now) result }
 {
     let height = bar(sheet, setting as u64, h.len() as u64);
-    let best = best_of(sheet, h, rising, sum(cap, height));
-    less(best, height)
+    best_of(sheet, h, rising, cap + height) - height
 }
 
 // The cost of a stretch of one bin or more.

@@ -19,7 +19,6 @@ ghost use Rattle.verdict.specs.Settings.{last_setting, closeness_of, Offered};
 use against::step_against;
 pub use costs::capped_cost;
 use costs::cost;
-use signed::not_negative;
 
 // The least and the largest closeness. One more closeness asks for one more bit of evidence before a stretch is rejected (rule T4).
 pub const LEAST_CLOSENESS: i32 = -10;
@@ -72,6 +71,6 @@ pub fn judge(h: &[u32], rising: bool, setting: u32) -> Verdict
     let found = cost(h, rising, setting);
     Verdict {
         cost: found,
-        rejected: step_against(h, rising) && not_negative(found),
+        rejected: step_against(h, rising) && 0 <= found,
     }
 }

@@ -1,10 +1,10 @@
 // Parts that need no logarithm: their count is so near their fitted mass that they cannot weigh more than the best part so far.
 // Let d be the difference of kB and A, and call A·(NB − A) the room of the fitted mass, kB·(NB − kB) that of the count. A part weighs at most 3/2 · n · d²/room bits, up to what its logarithms round off.
 // `best_at` solves this for d²/room, and `is_near` compares.
-ghost use Rattle.std.specs.Prelude.{◌≡◌, ◌+◌, ◌-◌, ◌≤◌, ◌<◌, ◌^◌, pos, ◌≤ℤ◌};
+ghost use Rattle.std.specs.Prelude.{◌≡◌, ◌≤◌, ◌<◌, ◌^◌, pos, ◌≤ℤ◌};
 ghost use Rattle.pooling.specs.Limits.{most_counts};
 ghost use Rattle.verdict.specs.Exactness.{LogsDefined};
-ghost use Rattle.verdict.specs.Near.{smaller_of, is_small, is_near, Spares, Usable};
+ghost use Rattle.verdict.specs.Near.{is_small, is_near, Spares, Usable};
 
 use crate::{Best, Mass, Threshold};
 use logarithm::Logarithm;
@@ -26,46 +26,13 @@ const LARGEST_FACTOR: u64 = 63;
 // With a larger shift hardly a part would be near; the limit keeps shifts within a word.
 const LARGEST_SHIFT: u32 = 40;
 
-// How far apart two numbers are.
-fn apart(x: u64, y: u64) -> u64
-    ensures { result ≡ (x - y) + (y - x) }
-{
-    if x < y { y - x } else { x - y }
-}
-
-// By how much a weight is above a number; 0 if it is not.
-fn above(weight: i64, least: u64) -> u64
-    requires { pos 0 ≤ℤ weight }
-    ensures { 0 < result → pos (result + least) ≤ℤ weight }
-{
-    let w = weight as u64;
-    if w < least { 0 } else { w - least }
-}
-
 // The shift at which x/y has a factor of about six bits: by how many bits x is shorter than y, within limits.
 fn shift_for(x: u64, y: u64) -> u32
     ensures { result ≤ 40 }
 {
-    let a = u64::leading_zeros(x);
-    let b = u64::leading_zeros(y);
-    if a < b {
-        return 0;
-    }
-    if a - b < LARGEST_SHIFT {
-        a - b
-    } else {
-        LARGEST_SHIFT
-    }
-}
-
-fn capped_factor(x: u64) -> u64
-    ensures { (result ≤ x) × (result < 64) }
-{
-    if x < LARGEST_FACTOR {
-        x
-    } else {
-        LARGEST_FACTOR
-    }
+    x.leading_zeros()
+        .saturating_sub(y.leading_zeros())
+        .min(LARGEST_SHIFT)
 }
 
 // A best weight, with its threshold. What the logarithms may have rounded off is set aside first. The 1 keeps the divisor above 0 where there are no counts.
@@ -73,10 +40,10 @@ pub fn best_at(n: u64, weight: i64) -> Best
     requires { (n ≤ most_counts) × (pos 0 ≤ℤ weight) }
     ensures { (result.weight ≡ weight) × Spares n result }
 {
-    let exact = above(weight, ROUNDED_OFF * n);
+    let exact = (weight as u64).saturating_sub(ROUNDED_OFF * n);
     let over = Logarithm::units(TWICE_BITS * n) + 1;
     let shift = shift_for(exact, over);
-    let factor = capped_factor((exact << (shift + ADDED_BITS)) / over);
+    let factor = ((exact << (shift + ADDED_BITS)) / over).min(LARGEST_FACTOR);
     Best {
         weight,
         threshold: Threshold { factor, shift },
@@ -91,12 +58,6 @@ fn is_small(s: u64, room: u64, t: Threshold) -> bool
     s <= (((room >> DROPPED_BITS) * t.factor) >> t.shift)
 }
 
-fn smaller(x: u64, y: u64) -> u64
-    ensures { result ≡ smaller_of x y }
-{
-    if x < y { x } else { y }
-}
-
 // The part's count is near its fitted mass. The first test is enough for most parts.
 pub fn is_near(n: u64, k: u64, m: Mass, t: Threshold) -> bool
     requires logs_defined { LogsDefined n k m }
@@ -105,11 +66,11 @@ pub fn is_near(n: u64, k: u64, m: Mass, t: Threshold) -> bool
 {
     let count = k * m.den;
     let all = n * m.den;
-    let gap = apart(count, m.num);
+    let gap = count.abs_diff(m.num);
     let fitted = m.num * (all - m.num);
     if is_small(gap * gap, fitted, t) {
         return true;
     }
-    let least = smaller(fitted, count * (all - count));
+    let least = fitted.min(count * (all - count));
     is_small(gap * (gap + 1) / 2, least, t)
 }

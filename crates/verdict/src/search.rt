@@ -1,25 +1,18 @@
 // The search for the best weight of a stretch's parts, up to a limit: it stops at the first weight that reaches the limit, and weighs no part that is near its fitted mass.
-ghost use Rattle.std.specs.Prelude.{◌≡◌, cond, ◌≤◌, ◌<◌, length, get_or, ◌≤ℤ◌};
+ghost use Rattle.std.specs.Prelude.{◌≡◌, cond, ◌≤◌, ◌<◌, length, ◌≤ℤ◌, MatchOption};
 ghost use Rattle.std.specs.Int.Signed.{lt_z};
 ghost use Rattle.lists.specs.Lists.{total};
 ghost use Rattle.logarithm.specs.Sheet.{log_sheet};
-ghost use Rattle.pooling.specs.Blocks.{direction, blocks};
-ghost use Rattle.pooling.specs.Limits.{most_bins, most_counts};
-ghost use Rattle.verdict.specs.Near.{Usable, Spares, Tried, NearUpTo};
-ghost use Rattle.verdict.specs.Scratch.{Scratch, Attained, BestOf, EndingAt, first_of, end_of, Turn, Part};
+ghost use Rattle.pooling.specs.Limits.{most_counts};
+ghost use Rattle.verdict.specs.Near.{Usable, Spares, Tried};
+ghost use Rattle.verdict.specs.Scratch.{EndingAt, Visits, Part};
+ghost use Rattle.verdict.specs.Searching.{fit_of, first_in, end_in, NearIn, SoFar, BestIn};
 
 use crate::near::{best_at, is_near};
-use crate::parts::{MOST_TOTALS, all_counts, part_counts, part_mass, wide};
-use crate::signed::is_below;
+use crate::parts::{Stretch, Turn};
 use crate::weights::weight;
 use crate::{Best, Threshold};
 use logarithm::SHEET_SIZE;
-use pooling::MOST_BINS;
-
-// The two turns of a search: the parts within one block, and those across blocks.
-const WITHIN: bool = true;
-
-const ACROSS: bool = false;
 
 // The better of the best weight so far and another.
 fn better(n: u64, best: Best, weight: i64) -> Best
@@ -27,189 +20,105 @@ fn better(n: u64, best: Best, weight: i64) -> Best
     requires spares { Spares n best }
     ensures { (result.weight ≡ cond (lt_z best.weight weight) weight best.weight) × Spares n result }
 {
-    if is_below(best.weight, weight) {
+    if best.weight < weight {
         return best_at(n, weight);
     }
     best
 }
 
-// The best weight after the part from bin i to bin j is weighed.
-fn tried(
-    sheet: &[u32; SHEET_SIZE],
-    h: &[u32],
-    rising: bool,
-    before: &[u32; MOST_TOTALS],
-    starts: &[u32; MOST_BINS],
-    sums: &[u32; MOST_BINS],
-    lens: &[u32; MOST_BINS],
-    within: bool,
-    i: usize,
-    j: usize,
-    best: Best,
-) -> Best
-    requires scratch { Scratch (direction rising) h.now before.now starts.now sums.now lens.now }
-    requires turn { Turn within starts.now (length h.now) i j × (sheet.now ≡ log_sheet) }
-    requires spares { Spares (total h.now) best }
-    ensures { Tried h.now (blocks (direction rising) h.now) i j best result }
-{
-    let n = all_counts(h, before);
-    let k = part_counts(h, before, i, j);
-    let m = part_mass(h, rising, before, starts, sums, lens, within, i, j);
-    better(n, best, weight(sheet, n, k, m))
-}
-
-// Of the parts that end at bin j, the first from bin `first` on that is not near its fitted mass; `end` if all before that are.
+// Of the parts that end at bin j and begin from bin `first` up to, but not including, `end`, the first that is not near its fitted mass: where it begins.
 fn first_far(
-    h: &[u32],
-    rising: bool,
-    before: &[u32; MOST_TOTALS],
-    starts: &[u32; MOST_BINS],
-    sums: &[u32; MOST_BINS],
-    lens: &[u32; MOST_BINS],
-    within: bool,
+    s: &Stretch,
+    turn: Turn,
     j: usize,
     first: usize,
     end: usize,
     t: Threshold,
-) -> usize
-    requires scratch { Scratch (direction rising) h.now before.now starts.now sums.now lens.now }
-    requires j_in_bounds { (j < length h.now) × (first_of within (get_or starts.now j 0) ≤ first) × (first ≤ end) × (end ≤ end_of within (get_or starts.now j 0) j) }
+) -> Option<usize>
+    requires j_in_bounds { (j < length s.now.h.now) × (first_in turn s.now j ≤ first) × (end ≤ end_in turn s.now j) }
     requires usable { Usable t }
-    ensures { (first ≤ result) × (result ≤ end) × NearUpTo h.now (blocks (direction rising) h.now) t j first result }
+    ensures { MatchOption result (NearIn s.now t j first end) (λ i. (first ≤ i) × (i < end) × NearIn s.now t j first i) }
 {
-    let n = all_counts(h, before);
-    let mut i = first;
-    while i < end {
-        let k = part_counts(h, before, i, j);
-        let m = part_mass(h, rising, before, starts, sums, lens, within, i, j);
+    let n = s.counts();
+    for i in first..end {
+        let k = s.part_counts(i, j);
+        let m = s.part_mass(turn, i, j);
         if !is_near(n, k, m, t) {
-            return i;
+            return Some(i);
         }
-        i += 1;
     }
-    i
+    None
 }
 
-// Of the parts that end at bin j, whose block begins at `start`, a turn visits those that begin from here up to, but not including, `end_of`.
-fn first_of(within: bool, start: usize) -> usize
-    ensures { result ≡ first_of within start }
-{
-    if within { start } else { 0 }
+// A search of the parts of a stretch.
+#[derive(Drop)]
+pub struct Search<'a> {
+    pub sheet: &'a [u32; SHEET_SIZE],
+    pub stretch: Stretch<'a>,
+    pub limit: i64,
+    ghost logs: { sheet.now ≡ log_sheet },
 }
 
-fn end_of(within: bool, start: usize, j: usize) -> usize
-    requires { j < most_bins }
-    ensures { result ≡ end_of within start j }
-{
-    if within { j + 1 } else { start }
-}
+impl Search<'_> {
+    // The best weight after the part from bin i to bin j is weighed.
+    fn tried(&self, turn: Turn, i: usize, j: usize, best: Best) -> Best
+        requires visits { Visits turn self.now.stretch.places.now (length self.now.stretch.h.now) i j }
+        requires spares { Spares (total self.now.stretch.h.now) best }
+        ensures { Tried self.now.stretch.h.now (fit_of self.now.stretch) i j best result }
+    {
+        let n = self.stretch.counts();
+        let k = self.stretch.part_counts(i, j);
+        let m = self.stretch.part_mass(turn, i, j);
+        better(n, best, weight(self.sheet, n, k, m))
+    }
 
-// The best weight after the parts of a turn that end at bin j. The search stops once it reaches the limit.
-fn best_ending_at(
-    sheet: &[u32; SHEET_SIZE],
-    h: &[u32],
-    rising: bool,
-    before: &[u32; MOST_TOTALS],
-    starts: &[u32; MOST_BINS],
-    sums: &[u32; MOST_BINS],
-    lens: &[u32; MOST_BINS],
-    within: bool,
-    j: usize,
-    best: Best,
-    limit: i64,
-) -> Best
-    requires scratch { Scratch (direction rising) h.now before.now starts.now sums.now lens.now }
-    requires j_in_bounds { (j < length h.now) × (sheet.now ≡ log_sheet) }
-    requires attained { Attained h.now (blocks (direction rising) h.now) best.weight × Spares (total h.now) best }
-    ensures weight_le_weight { (best.weight ≤ℤ result.weight) × Spares (total h.now) result }
-    ensures best_of { BestOf h.now (blocks (direction rising) h.now) limit
-        (EndingAt j (first_of within (get_or starts.now j 0)) (end_of within (get_or starts.now j 0) j)) result.weight }
-{
-    let start = wide(starts[j]) as usize;
-    let end = end_of(within, start, j);
-    let mut found = best;
-    let mut i = first_of(within, start);
-    while i < end {
-        i = first_far(
-            h,
-            rising,
-            before,
-            starts,
-            sums,
-            lens,
-            within,
-            j,
-            i,
-            end,
-            found.threshold,
-        );
-        if i < end {
-            found = tried(
-                sheet, h, rising, before, starts, sums, lens, within, i, j, found,
-            );
-            if !is_below(found.weight, limit) {
+    // The best weight after the parts of a turn that end at bin j. The search stops once it reaches the limit.
+    fn best_ending_at(&self, turn: Turn, j: usize, best: Best) -> Best
+        requires j_in_bounds { j < length self.now.stretch.h.now }
+        requires so_far { SoFar self.now.stretch best }
+        ensures weight_le_weight { (best.weight ≤ℤ result.weight) × Spares (total self.now.stretch.h.now) result }
+        ensures best_of { BestIn self.now.stretch self.now.limit (EndingAt j (first_in turn self.now.stretch j) (end_in turn self.now.stretch j)) result.weight }
+    {
+        let start = self.stretch.start(j);
+        let end = turn.end_of(start, j);
+        let mut found = best;
+        let mut next = turn.first_of(start);
+        // Not a `for`: each pass skips all near parts before the one that it weighs, by the threshold of the best so far.
+        while let Some(i) = first_far(&self.stretch, turn, j, next, end, found.threshold) {
+            found = self.tried(turn, i, j, found);
+            if found.weight >= self.limit {
                 return found;
             }
-            i += 1;
+            next = i + 1;
         }
+        found
     }
-    found
-}
 
-// The best weight after all parts within one block, or after all parts across blocks. The search stops once it reaches the limit.
-fn best_in_turn(
-    sheet: &[u32; SHEET_SIZE],
-    h: &[u32],
-    rising: bool,
-    before: &[u32; MOST_TOTALS],
-    starts: &[u32; MOST_BINS],
-    sums: &[u32; MOST_BINS],
-    lens: &[u32; MOST_BINS],
-    within: bool,
-    best: Best,
-    limit: i64,
-) -> Best
-    requires scratch { Scratch (direction rising) h.now before.now starts.now sums.now lens.now }
-    requires attained { Attained h.now (blocks (direction rising) h.now) best.weight × Spares (total h.now) best × (sheet.now ≡ log_sheet) }
-    ensures weight_le_weight { (best.weight ≤ℤ result.weight) × Spares (total h.now) result }
-    ensures best_of { BestOf h.now (blocks (direction rising) h.now) limit (Turn within starts.now (length h.now)) result.weight }
-{
-    let mut found = best;
-    let mut j = 0;
-    while j < h.len() {
-        if !is_below(found.weight, limit) {
-            return found;
+    // The best weight after all parts within one block, or after all parts across blocks. The search stops once it reaches the limit.
+    fn best_in_turn(&self, turn: Turn, best: Best) -> Best
+        requires so_far { SoFar self.now.stretch best }
+        ensures weight_le_weight { (best.weight ≤ℤ result.weight) × Spares (total self.now.stretch.h.now) result }
+        ensures best_of { BestIn self.now.stretch self.now.limit (Visits turn self.now.stretch.places.now (length self.now.stretch.h.now)) result.weight }
+    {
+        let mut found = best;
+        for j in 0..self.stretch.h.len() {
+            if found.weight >= self.limit {
+                return found;
+            }
+            found = self.best_ending_at(turn, j, found);
         }
-        found = best_ending_at(
-            sheet, h, rising, before, starts, sums, lens, within, j, found, limit,
-        );
-        j += 1;
+        found
     }
-    found
-}
 
-// The best weight of all parts, up to the limit. Parts within a block are likelier to reach it, so they come first.
-// The search begins with the whole stretch, which weighs 0.
-pub fn best_weight(
-    sheet: &[u32; SHEET_SIZE],
-    h: &[u32],
-    rising: bool,
-    before: &[u32; MOST_TOTALS],
-    starts: &[u32; MOST_BINS],
-    sums: &[u32; MOST_BINS],
-    lens: &[u32; MOST_BINS],
-    limit: i64,
-) -> i64
-    requires scratch { Scratch (direction rising) h.now before.now starts.now sums.now lens.now }
-    requires in_bounds { (1 ≤ length h.now) × (sheet.now ≡ log_sheet) }
-    ensures { BestOf h.now (blocks (direction rising) h.now) limit (Part h.now) result }
-{
-    let whole = best_at(all_counts(h, before), 0);
-    let inside = best_in_turn(
-        sheet, h, rising, before, starts, sums, lens, WITHIN, whole, limit,
-    );
-    let all = best_in_turn(
-        sheet, h, rising, before, starts, sums, lens, ACROSS, inside, limit,
-    );
-    all.weight
+    // The best weight of all parts, up to the limit. Parts within a block are likelier to reach it, so they come first.
+    // The search begins with the whole stretch, which weighs 0.
+    pub fn best_weight(&self) -> i64
+        requires { 1 ≤ length self.now.stretch.h.now }
+        ensures { BestIn self.now.stretch self.now.limit (Part self.now.stretch.h.now) result }
+    {
+        let whole = best_at(self.stretch.counts(), 0);
+        let inside = self.best_in_turn(Turn::WithinBlocks, whole);
+        let all = self.best_in_turn(Turn::AcrossBlocks, inside);
+        all.weight
+    }
 }
