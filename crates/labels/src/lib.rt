@@ -11,21 +11,12 @@ pub fn label_of(entry: usize) -> u16
     entry as u16
 }
 
-// A label of one byte, its number unchanged.
-fn widened(label: u8) -> u16
-    ensures { result ≡ label }
-{
-    label as u16
-}
-
 // Widens each label into the same place.
 pub fn widen_labels(narrow: &[u8], labels: &mut [u16])
     requires { length narrow.now ≡ length labels.old }
     ensures { labels.new ≡ narrow.now }
 {
-    let mut i = 0;
-    while i < labels.len() {
-        labels[i] = widened(narrow[i]);
-        i += 1;
+    for (i, label) in narrow.iter().enumerate() {
+        labels[i] = u16::from(*label);
     }
 }

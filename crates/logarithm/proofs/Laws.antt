@@ -1,6 +1,6 @@
 -- Laws of the worker that the code's proofs and its callers cite. Assumes nothing.
 use Prim.Native.Nat.{ℕ, zero, suc, ◌+◌, ◌*◌, ◌-◌, ◌%◌, ◌^◌, ◌≤◌, ◌<◌}
-use mathlib.Core.Path.{◌≡◌, refl, sym, ap, ap₂, ◌∙◌}
+use mathlib.Core.Path.{◌≡◌, refl, sym, ap, ◌∙◌}
 use lib.Dec.{lit<}
 use lib.Count.{count_leading_zeros, leading_top}
 use lib.Pow.{pow_pos, pow_mono}
@@ -9,10 +9,8 @@ use native.Mathlib.Numerals.{add-one}
 use native.Mathlib.Nat.{mod-eq_of_lt, lt_of_le_of_lt, lt_of_lt_of_le, le_of_eq, pow-lt-pow_left, mul-lt-mul_of_pos_right, mul-le-mul_left, le_of_lt}
 use Rattle.lists.proofs.Powers.{pow-pow, pow_lt_cancel}
 use Rattle.logarithm.specs.declared.Logarithm.{Logarithm}
-use Rattle.logarithm.specs.declared.Two.{Two}
 use Rattle.logarithm.specs.Log.{Loggable, round_count, units_per_bit, floor_log, lg}
-use Rattle.logarithm.specs.Worker.{Ready, start, round, after, two_after, round_both, logs_of}
-use Rattle.logarithm.proofs.Gathered.{lg-worker}
+use Rattle.logarithm.specs.Worker.{Ready, start, round, after}
 use Rattle.logarithm.proofs.Within.{floor-is, floor-le, floor-unique, after-start, after-low, always-bounded}
 
 -- a number shifted by its leading zeros is the number scaled to 32 bits
@@ -52,44 +50,20 @@ unfolding after
 after-round zero s = refl
 after-round (suc n) s = after-round n (round s)
 
--- ---- a worker on x that is in state s after i rounds: at first, before its last round, one round on, and at the end
-pub work-starts : {s : Logarithm} (x : ℕ) → s ≡ start x → s ≡ after 0 (start x)
-unfolding after
-work-starts x e = e
-
-pub work-ready : {s : Logarithm} (x i : ℕ) → Loggable x → i < round_count → s ≡ after i (start x) → Ready s
+-- ---- a worker on x after n rounds: it can do one more, and then it has done n + 1
+pub ready-after : (x n : ℕ) → Loggable x → n < round_count → Ready (after n (start x))
 unfolding round_count
-work-ready x i v l e =
-    let w = after-start x i v in
-    rw e (record {
+ready-after x n v l =
+    let w = after-start x n v in
+    record {
       low = w.above;
       high = w.below;
-      room = omega (arith, bits_below x (2 ^ i) (after i (start x)).bits v.high (pow_pos i) (after-low x i v), pow_mono (le_of_lt l));
-    })
+      room = omega (arith, bits_below x (2 ^ n) (after n (start x)).bits v.high (pow_pos n) (after-low x n v), pow_mono (le_of_lt l));
+    }
 
-pub work-more : {s t : Logarithm} (x i : ℕ) → s ≡ after i (start x) → t ≡ round s → t ≡ after (i + 1) (start x)
+pub round-after : (x n : ℕ) → round (after n (start x)) ≡ after (n + 1) (start x)
 unfolding after
-work-more x i e r = r ∙ ap round e ∙ sym (after-round i (start x)) ∙ ap (λ (k : ℕ). after k (start x)) (sym (add-one i))
-
-pub work-ends : {s : Logarithm} (x i : ℕ) → i ≡ round_count → s ≡ after i (start x) → s.bits ≡ lg x
-work-ends x i z e = ap (λ (t : Logarithm). t.bits) (e ∙ ap (λ (k : ℕ). after k (start x)) z) ∙ sym (lg-worker x)
-
--- ---- the same for two workers side by side, on a and on b
-pub pair-starts : {s : Two} (a b : ℕ) → s ≡ record { a = start a; b = start b } → s ≡ two_after 0 a b
-unfolding after
-pair-starts a b e = e
-
-pub pair-ready : {s : Two} (a b i : ℕ) → Loggable a → Loggable b → i < round_count → s ≡ two_after i a b → Ready s.a × Ready s.b
-pair-ready a b i u v l e = (work-ready a i u l (ap (λ (t : Two). t.a) e), work-ready b i v l (ap (λ (t : Two). t.b) e))
-
-pub pair-more : {s t : Two} (a b i : ℕ) → s ≡ two_after i a b → t ≡ round_both s → t ≡ two_after (i + 1) a b
-pair-more a b i e r =
-    r
-    ∙ ap₂ (λ (x y : Logarithm). record { a = x; b = y }) (work-more a i (ap (λ (t : Two). t.a) e) refl) (work-more b i (ap (λ (t : Two). t.b) e) refl)
-
-pub pair_ends : {s : Two} (a b i : ℕ) → i ≡ round_count → s ≡ two_after i a b → record { a = s.a.bits; b = s.b.bits } ≡ logs_of a b
-pair_ends a b i z e =
-    ap₂ (λ (x y : ℕ). record { a = x; b = y }) (work-ends a i z (ap (λ (t : Two). t.a) e)) (work-ends b i z (ap (λ (t : Two). t.b) e))
+round-after x n = sym (after-round n (start x)) ∙ ap (λ (k : ℕ). after k (start x)) (sym (add-one n))
 
 pub units-positive : 0 < units_per_bit
 unfolding units_per_bit

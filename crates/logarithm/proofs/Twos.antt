@@ -1,16 +1,18 @@
 -- A factor of 2 adds one bit to a logarithm: the scaled number is the same, and what the rounds add does not depend on the start. Assumes nothing.
 use Prim.Native.Nat.{ℕ, zero, suc, ◌+◌, ◌*◌, ◌-◌, ◌/◌, ◌%◌, ◌^◌, ◌≤◌, ◌<◌}
 use mathlib.Core.Path.{◌≡◌, refl, sym, ap, ap₂, ◌∙◌}
-use mathlib.Core.Bool.{Bool, true, false, cond}
+use mathlib.Core.Bool.{Bool, true, false, cond, not}
 use lib.Dec.{leb}
 use lib.Count.{count_trailing_zeros, under}
 use lib.Pow.{pow-add, pow_pos}
 use native.Mathlib.Omega.{arith}
 use native.Mathlib.Nat.{add-mul, mul_assoc, mul_comm, mul-one, pow-suc, pow-zero, le_of_eq, le_trans, lt_of_lt_of_le, lt_of_le_of_lt, mul-le-mul_right, mul-lt-mul_of_pos_right, div-one, div-div-eq-div-mul, div-add-mod'}
+use Rattle.std.proofs.lemmas.Bool.{not-false}
+use borrow.Author.Tests.{leb-true}
 use Rattle.lists.proofs.Powers.{pow_lt_cancel}
 use Rattle.logarithm.specs.Log.{Loggable, round_count, units_per_bit, floor_log, rounds, lg}
 use Rattle.logarithm.specs.Bounds.{TwosAddBits}
-use Rattle.logarithm.specs.Sheet.{twos_of, odd_part}
+use Rattle.logarithm.specs.Sheet.{sheet_size, twos_of, odd_part, on_sheet}
 use Rattle.logarithm.proofs.Within.{Floor, floor-is, floor-le, floor-unique}
 
 -- the rounds only add to what they start from
@@ -81,6 +83,11 @@ trailing-whole (suc k) n = go (n % 2) refl (trailing-whole k (n / 2))
 pub odd-twos : (x : ℕ) → odd_part x * 2 ^ twos_of x ≡ x
 unfolding odd_part
 odd-twos x = trailing-whole 64 x
+
+-- a number that the sheet gives the logarithm of
+pub on-sheet-le : (x : ℕ) → not (on_sheet x) ≡ false → odd_part x ≤ sheet_size
+unfolding on_sheet
+on-sheet-le x e = leb-true (odd_part x) sheet_size (not-false (leb (odd_part x) sheet_size) e)
 
 module _ (x : ℕ) (v : Loggable x) where
   -- the odd part is 1 or more

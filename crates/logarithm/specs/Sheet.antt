@@ -1,8 +1,8 @@
 -- The stored sheet of logarithms: rule L5. Assumes nothing.
-use Rattle.std.specs.Prelude.{ℕ, ◌-◌, ◌/◌, ◌^◌, ◌≤◌, ◌≡◌, Bool, false, not, ◌&&◌, List, map, leb, get_or}
+use Rattle.std.specs.Prelude.{ℕ, ◌-◌, ◌/◌, ◌^◌, ◌≤◌, ◌≡◌, Bool, List, map, leb, get_or}
 use Rattle.std.specs.Int.Count.{count_trailing_zeros}
 use Rattle.lists.specs.Lists.{numbers}
-use Rattle.logarithm.specs.Log.{Loggable, lg}
+use Rattle.logarithm.specs.Log.{lg}
 
 -- L5: how many numbers are on it
 unfoldable pub sheet_size : ℕ
@@ -26,12 +26,3 @@ odd_part x = x / 2 ^ twos_of x
 -- L5: the sheet gives the logarithm of x
 unfoldable pub on_sheet : ℕ → Bool
 on_sheet x = leb (odd_part x) sheet_size
-
--- L5: the logarithm of x has to be found by rounds
-pub record PastSheet (x : ℕ) : Type 0 where
-  pub loggable : Loggable x
-  pub past : on_sheet x ≡ false
-
--- L5: and so do those of a and of b
-unfoldable pub both_past : ℕ → ℕ → Bool
-both_past a b = not (on_sheet a) && not (on_sheet b)

@@ -2,9 +2,7 @@
 -- The bits found so far form one whole number. Each round doubles it and adds the bit found, so that no round needs to know which one it is.
 use Rattle.std.specs.Prelude.{ℕ, zero, suc, ◌+◌, ◌*◌, ◌-◌, ◌/◌, ◌^◌, ◌≤◌, ◌<◌, cond, leb}
 use Rattle.logarithm.specs.declared.Logarithm.{Logarithm}
-use Rattle.logarithm.specs.declared.Two.{Two}
-use Rattle.logarithm.specs.declared.Logs.{Logs}
-use Rattle.logarithm.specs.Log.{floor_log, lg}
+use Rattle.logarithm.specs.Log.{floor_log}
 
 -- L2: the number scaled to 32 bits, and the floor of its logarithm
 unfoldable pub start : ℕ → Logarithm
@@ -27,15 +25,3 @@ round s =
 unfoldable pub after : ℕ → Logarithm → Logarithm
 after zero s = s
 after (suc n) s = after n (round s)
-
--- L3: two workers, on a and on b, after n rounds of each
-abbrev pub two_after : ℕ → ℕ → ℕ → Two
-two_after n a b = record { a = after n (start a); b = after n (start b) }
-
--- L3: a round of both
-abbrev pub round_both : Two → Two
-round_both s = record { a = round s.a; b = round s.b }
-
--- L1: the logarithms of a and of b
-abbrev pub logs_of : ℕ → ℕ → Logs
-logs_of a b = record { a = lg a; b = lg b }

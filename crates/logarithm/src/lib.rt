@@ -2,15 +2,15 @@
 // Where the stored sheet has it, it is read from there instead (rule L5).
 #![tactic(auto)]
 
-mod rounds;
+mod numbers;
 mod sheet;
 
-ghost use Rattle.std.specs.Prelude.{◌≡◌, ◌+◌, ◌≤◌, ◌<◌, ◌*◌, ◌^◌, leb};
+ghost use Rattle.std.specs.Prelude.{◌≡◌, ◌+◌, ◌≤◌, ◌<◌, ◌*◌, ◌^◌, leb, true};
 ghost use Rattle.logarithm.specs.Log.{Loggable, lg, units_per_bit};
-ghost use Rattle.logarithm.specs.Sheet.{sheet_size, log_sheet, twos_of, odd_part, both_past};
-ghost use Rattle.logarithm.specs.Worker.{Ready, start, round, logs_of};
+ghost use Rattle.logarithm.specs.Sheet.{sheet_size, log_sheet, twos_of, odd_part};
+ghost use Rattle.logarithm.specs.Worker.{Ready, start, round};
 
-use rounds::{by_rounds, four_by_rounds, two_by_rounds};
+pub use numbers::Numbers;
 pub use sheet::{SHEET_SIZE, copied_sheet};
 
 // The state between rounds: a mantissa of 2^31 or more and below 2^32, and the bits of the logarithm found so far.
@@ -24,6 +24,9 @@ impl Logarithm {
     pub const ROUNDS: u64 = 26;
 
     pub const UNITS_PER_BIT: u64 = 67108864;
+
+    // The least square of which a round sets its bit, since it has 64 bits.
+    const LEAST_OF_64_BITS: u64 = 1 << 63;
 
     // Whole bits, converted to units.
     pub fn units(bits: u64) -> u64
@@ -51,7 +54,7 @@ impl Logarithm {
         ensures { result ≡ round self }
     {
         let square = self.mantissa * self.mantissa;
-        if square >= 9223372036854775808 {
+        if square >= Self::LEAST_OF_64_BITS {
             Logarithm {
                 mantissa: square >> 32,
                 bits: 2 * self.bits + 1,
@@ -65,37 +68,11 @@ impl Logarithm {
     }
 }
 
-// Two workers, to do their rounds side by side.
-#[derive(Clone, Copy)]
-pub struct Two {
-    pub a: Logarithm,
-    pub b: Logarithm,
-}
-
 // An odd number times a power of 2.
 #[derive(Clone, Copy)]
 pub struct Odd {
     pub odd: u64,
     pub twos: u64,
-}
-
-// The logarithms of two numbers, and of twice two.
-#[derive(Clone, Copy)]
-pub struct Logs {
-    pub a: u64,
-    pub b: u64,
-}
-
-#[derive(Clone, Copy)]
-pub struct FourLogs {
-    pub first: Logs,
-    pub second: Logs,
-}
-
-fn wide(x: u32) -> u64
-    ensures { result ≡ x }
-{
-    x as u64
 }
 
 // A number without its factors of 2, and how many there are.
@@ -123,58 +100,32 @@ fn read(sheet: &[u32; SHEET_SIZE], p: Odd) -> u64
     ensures { result ≡ lg p.odd + p.twos * units_per_bit }
 {
     let place = (p.odd - 1) as usize;
-    wide(sheet[place]) + Logarithm::units(p.twos)
+    u64::from(sheet[place]) + Logarithm::units(p.twos)
 }
 
-// The logarithm of a number below 2^32, in units of 1/UNITS_PER_BIT of a bit.
-pub fn lg(sheet: &[u32; SHEET_SIZE], x: u64) -> u64
-    requires { (sheet.now ≡ log_sheet) × Loggable x }
-    ensures { result ≡ lg x }
+// The logarithms of numbers that the sheet has none of: their workers do their rounds side by side in one loop, so that while one waits for its last squaring, the
+// others go on.
+fn by_rounds<X: Numbers>(x: X) -> X
+    requires loggable { X.loggable x }
+    requires past { X.past_sheet x ≡ true }
+    ensures { result ≡ X.logs x }
 {
-    let p = take_apart(x);
-    if on_sheet(p) {
-        return read(sheet, p);
+    let mut workers = x.start();
+    for _ in 0..Logarithm::ROUNDS {
+        workers = X::round(workers);
     }
-    by_rounds(x)
+    X::bits(workers)
 }
 
-// The sheet has neither logarithm.
-fn both_past(a: u64, b: u64) -> bool
-    requires { Loggable a × Loggable b }
-    ensures { result ≡ both_past a b }
+// The logarithm of a number below 2^32, or of each of several, in units of 1/UNITS_PER_BIT of a bit.
+pub fn lg<X: Numbers>(sheet: &[u32; SHEET_SIZE], x: X) -> X
+    requires sheet { sheet.now ≡ log_sheet }
+    requires loggable { X.loggable x }
+    ensures { result ≡ X.logs x }
 {
-    if on_sheet(take_apart(a)) {
-        return false;
-    }
-    !on_sheet(take_apart(b))
-}
-
-// Two logarithms, side by side if neither can be read.
-pub fn lg_two(sheet: &[u32; SHEET_SIZE], a: u64, b: u64) -> Logs
-    requires { (sheet.now ≡ log_sheet) × Loggable a × Loggable b }
-    ensures { result ≡ logs_of a b }
-{
-    if both_past(a, b) {
-        return two_by_rounds(a, b);
-    }
-    Logs {
-        a: lg(sheet, a),
-        b: lg(sheet, b),
-    }
-}
-
-// Four logarithms, side by side if none can be read.
-pub fn lg_four(sheet: &[u32; SHEET_SIZE], a: u64, b: u64, c: u64, d: u64) -> FourLogs
-    requires { (sheet.now ≡ log_sheet) × Loggable a × Loggable b × Loggable c × Loggable d }
-    ensures { result ≡ record { first = logs_of a b; second = logs_of c d } }
-{
-    if both_past(a, b) {
-        if both_past(c, d) {
-            return four_by_rounds(a, b, c, d);
-        }
-    }
-    FourLogs {
-        first: lg_two(sheet, a, b),
-        second: lg_two(sheet, c, d),
+    if x.past_sheet() {
+        by_rounds(x)
+    } else {
+        x.in_turn(sheet)
     }
 }

@@ -1,7 +1,7 @@
 -- A hue point turned back, by its quarter. Assumes nothing.
 use Prim.Native.Nat.{ℕ, ◌+◌, ◌*◌, ◌-◌, ◌≤◌, ◌<◌}
 use mathlib.Core.Path.{◌≡◌, refl, ◌∙◌}
-use mathlib.Core.Bool.{Bool, true, false, cond, not, ◌&&◌, and-false}
+use mathlib.Core.Bool.{Bool, true, false, cond, not, beq, ◌&&◌, and-false}
 use lib.Dec.{leb, ltb}
 use lib.IntN.{pos, sub_ℕ, neg_ℤ-neg_ℤ}
 use native.Mathlib.Omega.{arith}
@@ -131,7 +131,7 @@ module _ (p : Pixel) where
       → y ≡ cond (leb (p.green + p.blue) (2 * p.red)) 1 0
       → ltb (2 * p.red) (p.green + p.blue + x) ≡ upper
       → ltb p.blue (p.green + y) ≡ right
-      → let odd = cond upper (not right) right in
+      → let odd = not (beq upper right) in
       turned_of (hue_point p) ≡ record { quarter = cond upper 0 2 + cond odd 1 0; a = cond odd v u; b = cond odd u v }
   turned-by-halves u v x y true true eu ev ex ey i j =
       let o = upper-right p.green p.blue (p.green + p.blue) (2 * p.red) x y ex ey (ltb-true _ _ i) (ltb-true _ _ j) in

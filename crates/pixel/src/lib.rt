@@ -1,7 +1,7 @@
 // The measures of a pixel: its intensity, saturation and hue bins, and whether it is grey.
 #![tactic(auto)]
 
-ghost use Rattle.std.specs.Prelude.{◌≡◌, cond, not, ◌+◌, ◌*◌, ◌-◌, ◌≤◌, ◌<◌, leb, get_or};
+ghost use Rattle.std.specs.Prelude.{ℕ, ◌≡◌, cond, ◌+◌, ◌*◌, ◌-◌, ◌≤◌, ◌<◌, leb, get_or};
 ghost use Rattle.pixel.specs.Root.{RootWithin, root_count, Rooted, line_of};
 ghost use Rattle.pixel.specs.Colour.{
   saturation_count,
@@ -70,21 +70,14 @@ struct Inner {
 pub fn intensity_bin(p: Pixel) -> u8
     ensures { result ≡ intensity_bin p }
 {
-    ((p.red as u32 + p.green as u32 + p.blue as u32) / 15) as u8
-}
-
-// The absolute difference of two numbers.
-fn apart(a: u32, b: u32) -> u32
-    ensures { result ≡ (a - b) + (b - a) }
-{
-    if a < b { b - a } else { a - b }
+    ((u32::from(p.red) + u32::from(p.green) + u32::from(p.blue)) / 15) as u8
 }
 
 // 1 if x reaches the bar, else 0. Adding these up counts without a branch.
 fn at_least(x: u32, bar: u32) -> u32
     ensures { (result ≡ cond (leb bar x) 1 0) × (result ≤ 1) }
 {
-    if bar <= x { 1 } else { 0 }
+    u32::from(bar <= x)
 }
 
 // a or b. It compiles without a branch.
@@ -98,10 +91,10 @@ fn chosen(test: bool, a: u32, b: u32) -> u32
 fn chroma_squared(p: Pixel) -> u32
     ensures { result ≡ chroma_squared p }
 {
-    let g = p.green as u32;
-    let b = p.blue as u32;
-    let x = apart(g, b);
-    let y = apart(g + b, 2 * p.red as u32);
+    let g = u32::from(p.green);
+    let b = u32::from(p.blue);
+    let x = g.abs_diff(b);
+    let y = (g + b).abs_diff(2 * u32::from(p.red));
     (y * y + 3 * (x * x)) / 4
 }
 
@@ -145,21 +138,30 @@ fn near_root(x: u32) -> u32
     (line.start + line.slope * x) / 1024
 }
 
-// The largest j with 75j² ≤ 2Q, computed as the square root of 2Q/75, rounded down.
-fn saturation_of(q: u32) -> u8
-    requires { q ≤ 65025 }
-    ensures { result ≡ saturation_of q }
+// The square root rounded down.
+fn root(x: u32) -> u8
+    requires { x ≤ 1734 }
+    ensures { RootWithin 1 x result }
 {
-    let x = 2 * q / 75;
     let near = near_root(x);
     let next = near + 1;
     chosen(next * next <= x, next, near) as u8
 }
 
+// The largest j with 75j² ≤ 2Q, which is the square root of 2Q/75, rounded down. Where the root comes from is the caller's choice.
+fn saturation_of<R: Fn(u32) -> u8>(root: R, q: u32) -> u8
+    requires small { q ≤ 65025 }
+    requires can { (x : ℕ) → x ≤ 1734 → R.pre root x }
+    requires roots { (x j : ℕ) → x ≤ 1734 → R.post root x j → RootWithin 1 x j }
+    ensures { result ≡ saturation_of q }
+{
+    root(2 * q / 75)
+}
+
 pub fn saturation_bin(p: Pixel) -> u8
     ensures { result ≡ saturation_bin p }
 {
-    saturation_of(chroma_squared(p))
+    saturation_of(root, chroma_squared(p))
 }
 
 // Writes the root j at the places of its numbers, from j² up to the next square.
@@ -167,11 +169,8 @@ fn write_root(roots: &mut [u8], j: usize)
     requires { (j < saturation_count) × Rooted roots.old (j * j) }
     ensures { Rooted roots.new ((j + 1) * (j + 1)) }
 {
-    let end = (j + 1) * (j + 1);
-    let mut x = j * j;
-    while x < end {
+    for x in j * j..(j + 1) * (j + 1) {
         roots[x] = j as u8;
-        x += 1;
     }
 }
 
@@ -180,10 +179,8 @@ pub fn roots() -> [u8; ROOTS]
     ensures { Rooted result root_count }
 {
     let mut roots = [0u8; ROOTS];
-    let mut j = 0;
-    while j < SATURATIONS {
+    for j in 0..SATURATIONS {
         write_root(&mut roots, j);
-        j += 1;
     }
     roots
 }
@@ -193,14 +190,14 @@ pub fn saturation_by(roots: &[u8], p: Pixel) -> u8
     requires { Rooted roots.now root_count }
     ensures { result ≡ saturation_bin p }
 {
-    roots[(2 * chroma_squared(p) / 75) as usize]
+    saturation_of(|x| roots[x as usize], chroma_squared(p))
 }
 
 // 1 if the slope b/a reaches tangent t, else 0. `bound` is 1000000·b.
 fn passes(t: u32, a: u32, bound: u64) -> u32
     ensures { (result ≡ cond (leb (t * a) bound) 1 0) × (result ≤ 1) }
 {
-    if t as u64 * a as u64 <= bound { 1 } else { 0 }
+    u32::from(u64::from(t) * u64::from(a) <= bound)
 }
 
 // The tangents of 6° to 84°, in millionths, without every third one. Each group has its own arm, so the table is read without a test; no caller reaches the last arm.
@@ -241,7 +238,7 @@ fn inner_of(group: u32) -> Inner
 fn tangents_passed(a: u32, b: u32) -> u32
     ensures { result ≡ tangents_passed a b }
 {
-    let bound = b as u64 * 1000000;
+    let bound = u64::from(b) * 1000000;
     let group = passes(324919, a, bound)
         + passes(726542, a, bound)
         + passes(1376381, a, bound)
@@ -250,27 +247,21 @@ fn tangents_passed(a: u32, b: u32) -> u32
     3 * group + passes(t.first, a, bound) + passes(t.second, a, bound)
 }
 
-fn differ(a: bool, b: bool) -> bool
-    ensures { result ≡ cond a (not b) b }
-{
-    if a { !b } else { b }
-}
-
 // The hue point, u = 1732051·(G−B) and v = 1000000·(G+B−2R), turned back. It lies in the upper half where v > 0, or v = 0 and u > 0, and in the right
 // half where u > 0, or u = 0 and v ≤ 0. Each test adds 1 to one side where the other coordinate decides a tie. Nothing here branches: with the noise
 // of a cloth, branches would often be mispredicted.
 pub fn turned_back(p: Pixel) -> Turned
     ensures { result ≡ turned_of (hue_point p) }
 {
-    let g = p.green as u32;
-    let b = p.blue as u32;
+    let g = u32::from(p.green);
+    let b = u32::from(p.blue);
     let sum = g + b;
-    let twice = 2 * p.red as u32;
-    let u = 1732051 * apart(g, b);
-    let v = 1000000 * apart(sum, twice);
+    let twice = 2 * u32::from(p.red);
+    let u = 1732051 * g.abs_diff(b);
+    let v = 1000000 * sum.abs_diff(twice);
     let upper = twice < sum + at_least(g, b + 1);
     let right = b < g + at_least(twice, sum);
-    let odd = differ(upper, right);
+    let odd = upper != right;
     Turned {
         quarter: chosen(upper, 0, 2) + chosen(odd, 1, 0),
         a: chosen(odd, v, u),

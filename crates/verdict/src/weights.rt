@@ -20,8 +20,8 @@ fn one_term(sheet: &[u32; SHEET_SIZE], n: u64, p: u64, q: u64) -> i64
     requires { (sheet.now ≡ log_sheet) × (n ≤ most_counts) × Loggable p × Loggable q }
     ensures { result ≡ sub_ℕ (n * lg p) (n * lg q) }
 {
-    let l = logarithm::lg_two(sheet, p, q);
-    difference(n * l.a, n * l.b)
+    let (lg_p, lg_q) = logarithm::lg(sheet, (p, q));
+    difference(n * lg_p, n * lg_q)
 }
 
 // Both terms: k · (lg p − lg q) + rest · (lg s − lg t).
@@ -29,11 +29,8 @@ fn two_terms(sheet: &[u32; SHEET_SIZE], k: u64, rest: u64, p: u64, q: u64, s: u6
     requires { (sheet.now ≡ log_sheet) × (k + rest ≤ most_counts) × Loggable p × Loggable q × Loggable s × Loggable t }
     ensures { result ≡ sub_ℕ (k * lg p + rest * lg s) (k * lg q + rest * lg t) }
 {
-    let l = logarithm::lg_four(sheet, p, q, s, t);
-    difference(
-        k * l.first.a + rest * l.second.a,
-        k * l.first.b + rest * l.second.b,
-    )
+    let ((lg_p, lg_q), (lg_s, lg_t)) = logarithm::lg(sheet, ((p, q), (s, t)));
+    difference(k * lg_p + rest * lg_s, k * lg_q + rest * lg_t)
 }
 
 // The weight of a part that holds k of the n counts. If the fitted mass equals the count, it is 0. The search never weighs such a part;
