@@ -1,9 +1,9 @@
 -- A join of segments that two lists hold, and what is left after the joins. Assumes nothing.
 use Prim.Native.Nat.{ℕ, zero, suc, ◌+◌, ◌-◌, ◌≤◌, ◌<◌}
 use mathlib.Core.Path.{◌≡◌, refl, sym, ap, ◌∙◌}
-use mathlib.Core.Bool.{Bool, true, false, cond, not, false≢true}
+use mathlib.Core.Bool.{Bool, true, false, cond}
 use mathlib.Core.List.{List, ◌∷◌, ◌++◌}
-use mathlib.Core.Option.{Option, none, some}
+use mathlib.Core.Option.{some}
 use native.Mathlib.Nat.{add-zero}
 use native.Mathlib.Numerals.{add-one}
 use native.Mathlib.Omega.{arith}
@@ -16,7 +16,7 @@ use Rattle.segmentation.specs.Segments.{Segment, segment_at, first_segments}
 use Rattle.segmentation.specs.Joining.{line_reader, Join, joined, join, Joins, line_joins, join_all, line_modes}
 use Rattle.segmentation.specs.Around.{ring_joins}
 use Rattle.segmentation.specs.Ring.{opened, round_reader, ring_modes}
-use Rattle.segmentation.specs.Held.{segments_held, join_found}
+use Rattle.segmentation.specs.Held.{segments_held}
 use Rattle.segmentation.specs.Finished.{Cut}
 use Rattle.segmentation.proofs.Kept.{chain-grows}
 use Rattle.segmentation.proofs.Holding.{held-length, held_at}
@@ -154,14 +154,6 @@ module _ (s p : List ℕ) (n : ℕ) (j : Join) (to : ℕ) where
     join-held t q u v = ap (λ z. segments_held z q 0 (n - (j.len - 1))) u ∙ ap (λ z. segments_held separators_then z 0 (n - (j.len - 1))) v ∙ then-held
 
 -- ---- one join after another
-pub found_some : (found : Bool) (j : Join) (o : Option Join) → join_found found j ≡ o → not found ≡ false → o ≡ some j
-found_some true j o e t = sym e
-found_some false j o e t = absurd (false≢true (sym t))
-
-pub found_none : (found : Bool) (j : Join) (o : Option Join) → join_found found j ≡ o → not found ≡ true → o ≡ none
-found_none true j o e t = absurd (false≢true t)
-found_none false j o e t = sym e
-
 -- with r segments held after a join of n, what is left to do is the same
 pub held-step : (w : Joins) → Shortens w → (s p t q : List ℕ) (n r : ℕ) (j : Join) → w.next (segments_held s p 0 n) ≡ some j
     → segments_held t q 0 r ≡ w.after (segments_held s p 0 n) j → join_all r w (segments_held t q 0 r) ≡ join_all n w (segments_held s p 0 n)

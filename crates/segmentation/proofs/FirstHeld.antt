@@ -17,23 +17,23 @@ use Rattle.segmentation.proofs.FirstHumps.{peak_of}
 use Rattle.segmentation.proofs.FirstCut.{separator_at, first-neighbours, from-length}
 
 -- ---- the first highest bin, one bin more at a time
-pub highest-first : (h : List ℕ) (s : ℕ) → s ≡ first_highest h s (s - s)
+pub highest-first : (h : List ℕ) (s : ℕ) → s ≡ first_highest h s (s + 1 - 1 - s)
 unfolding first_highest
-highest-first h s = let z : s - s ≡ 0 = omega arith in rw z
+highest-first h s = let z : s + 1 - 1 - s ≡ 0 = omega arith in rw z
 
-module _ (h : List ℕ) (s i m : ℕ) (l : s ≤ i) (e : m ≡ first_highest h s (i - s)) where
-  highest-more : first_highest h s (i + 1 - s) ≡ cond (ltb (bin_at h m) (bin_at h (i + 1))) (i + 1) m
+module _ (h : List ℕ) (s i m : ℕ) (l : s < i) (e : m ≡ first_highest h s (i - 1 - s)) where
+  highest-more : first_highest h s (i + 1 - 1 - s) ≡ cond (ltb (bin_at h m) (bin_at h i)) i m
   unfolding first_highest
   highest-more =
-      let z : i + 1 - s ≡ suc (i - s) = omega arith in
-      let y : s + suc (i - s) ≡ i + 1 = omega arith in
+      let z : i + 1 - 1 - s ≡ suc (i - 1 - s) = omega arith in
+      let y : s + suc (i - 1 - s) ≡ i = omega arith in
       rw (z, y, e)
 
-  pub highest-higher : bin_at h m < bin_at h (i + 1) → i + 1 ≡ first_highest h s (i + 1 - s)
-  highest-higher d = rw (highest-more, lt-ltb (bin_at h m) (bin_at h (i + 1)) d)
+  pub highest-higher : bin_at h m < bin_at h i → i ≡ first_highest h s (i + 1 - 1 - s)
+  highest-higher d = rw (highest-more, lt-ltb (bin_at h m) (bin_at h i) d)
 
-  pub highest-kept : bin_at h (i + 1) ≤ bin_at h m → m ≡ first_highest h s (i + 1 - s)
-  highest-kept d = rw (highest-more, le-ltb (bin_at h m) (bin_at h (i + 1)) d)
+  pub highest-kept : bin_at h i ≤ bin_at h m → m ≡ first_highest h s (i + 1 - 1 - s)
+  highest-kept d = rw (highest-more, le-ltb (bin_at h m) (bin_at h i) d)
 
 -- ---- the peaks, one segment more at a time
 pub peaks-more : (h separators peaks : List ℕ) (m v : ℕ) → m < length peaks → v ≡ peak_of h (get_or separators m 0) (get_or separators (m + 1) 0)

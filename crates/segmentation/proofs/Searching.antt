@@ -4,6 +4,7 @@ use mathlib.Core.Path.{◌≡◌, refl, sym, subst, ◌∙◌}
 use mathlib.Core.Bool.{Bool, true, false, cond, false≢true}
 use mathlib.Core.List.{List, map}
 use mathlib.Core.Option.{Option, none, some, none-ne-some, some-ne-none}
+use Rattle.std.specs.Prelude.{Some, None, is_some, Option as Found}
 use native.Mathlib.Numerals.{add-one}
 use native.Mathlib.Omega.{arith}
 use lib.ListN.{get_or}
@@ -11,16 +12,16 @@ use lib.IntN.{ℤ, pos}
 use lib.Signed.{lt_z, mag, ◌≤ℤ◌}
 use Rattle.lists.specs.Lists.{part, first_that, numbers}
 use Rattle.lists.proofs.Cases.{by_cond}
-use Rattle.lists.proofs.Signed.{nlt-le-ℤ, lt_no, lt-le-lt}
+use Rattle.lists.proofs.Signed.{nlt-le-ℤ, lt-le-ℤ, lt_no, lt-le-lt, le-antisym-ℤ}
+use Rattle.std.specs.Int.{int_min}
 use Rattle.lists.proofs.Leasts.{least_of, found_among, none_found, found-lowest}
 use Rattle.pooling.specs.Blocks.{increasing, decreasing}
 use Rattle.verdict.specs.Test.{Closeness, cost}
 use Rattle.verdict.specs.Scratch.{Capped}
-use Rattle.segmentation.specs.declared.Found.{Found}
 use Rattle.segmentation.specs.Joining.{Join, Reader, line_reader, rise_of, fall_of, rise_cost, fall_cost, join_of, last_start, cheapest, next_among}
 use Rattle.segmentation.specs.Segments.{Segment}
 use Rattle.segmentation.specs.Held.{segments_held, join_found}
-use Rattle.segmentation.specs.Runs.{RunBelow, join_by, better_of, where_below}
+use Rattle.segmentation.specs.Runs.{RunBelow, join_by, where_below, held_count}
 use Rattle.segmentation.proofs.Holding.{held_at}
 
 -- the run that the definition has, by its two costs
@@ -31,6 +32,19 @@ unfolding join_of rise_cost fall_cost rise_of fall_of
 run_is e h s p n i len one fit =
     let k : suc (i + len - 1) ≡ i + len = omega arith in
     rw (held_at s p n i (omega arith), held_at s p n (i + len - 1) (omega arith), k) refl
+
+-- S4: the smaller of two costs, as the library has it and as the definitions do
+pub min-is : (x y : ℤ) → int_min x y ≡ cond (lt_z x y) x y
+min-is x y = go (lt_z x y) (lt_z y x) refl refl
+  where
+    go : (t u : Bool) → lt_z x y ≡ t → lt_z y x ≡ u → cond u y x ≡ cond t x y
+    go true true e f = absurd (false≢true (sym (lt_no x y (lt-le-ℤ y x f)) ∙ e))
+    go true false e f = refl
+    go false true e f = refl
+    go false false e f =
+        let a : y ≤ℤ x = nlt-le-ℤ x y e in
+        let b : x ≤ℤ y = nlt-le-ℤ y x f in
+        le-antisym-ℤ x y b a
 
 -- ---- the choice of a run's cost, from the fall's and the rise's, each with its cap
 module _ (least f r F R : ℤ) (cf : Capped least f F) (i n : ℕ) where
@@ -90,31 +104,41 @@ so_far j i = found_among (λ (r : Join). r.cost) (pos 0) j i
 abbrev pub least_so_far : (ℕ → Join) → ℕ → ℤ
 least_so_far j i = least_of (λ (r : Join). r.cost) (pos 0) (so_far j i)
 
-pub record Searched (j : ℕ → Join) (i : ℕ) (b : Found) : Type 0 where
-  pub same : join_found b.found b.join ≡ so_far j i
-  pub least : b.join.cost ≡ least_so_far j i
-  pub small : mag b.join.cost < 2 ^ 62
+-- what was found among the first i, and the cost that the next one has to be below
+pub record Searched (j : ℕ → Join) (i : ℕ) (best : Found Join) (least : ℤ) : Type 0 where
+  pub same : join_found best ≡ so_far j i
+  pub least_is : least ≡ least_so_far j i
+  pub small : mag least < 2 ^ 62
 
 -- where none of the first i is below 0, nothing is found among them
-pub searched-none : (j : ℕ → Join) (i : ℕ) (b : Found) → ((k : ℕ) → k < i → pos 0 ≤ℤ (j k).cost) → b.found ≡ false → b.join.cost ≡ pos 0 → Searched j i b
-searched-none j i b above e z =
+pub searched-none : (j : ℕ → Join) (i : ℕ) → ((k : ℕ) → k < i → pos 0 ≤ℤ (j k).cost) → Searched j i None (pos 0)
+searched-none j i above =
     let q = none_found (λ (r : Join). r.cost) (pos 0) j i above in
-    record { same = rw (e, q) refl; least = rw q z; small = rw z (omega arith) }
+    record { same = rw q refl; least_is = rw q refl; small = omega arith }
 
-pub searched-more : (j : ℕ → Join) (i : ℕ) (b : Found) (r : Join) → Searched j i b → RunBelow b.join.cost (j i) r → Searched j (i + 1) (better_of b r)
-unfolding found_among better_of
-searched-more j i b r s k = rw add-one (go (lt_z (j i).cost b.join.cost) refl)
-  where
-    go : (t : Bool) → lt_z (j i).cost b.join.cost ≡ t → Searched j (suc i) (better_of b r)
-    go true e =
-        let q = k.below e in
-        let yes : lt_z r.cost b.join.cost ≡ true = rw q e in
-        let taken : lt_z (j i).cost (least_so_far j i) ≡ true = rw s.least at e in
-        rw yes (record { same = rw (taken, q) refl; least = rw (taken, q) refl; small = k.small })
-    go false e =
-        let no : lt_z r.cost b.join.cost ≡ false = lt_no r.cost b.join.cost (k.above e) in
-        let left : lt_z (j i).cost (least_so_far j i) ≡ false = rw s.least at e in
-        rw no (record { same = rw left s.same; least = rw left s.least; small = s.small })
+module _ (j : ℕ → Join) (i : ℕ) (best : Found Join) (least : ℤ) (r : Join) (s : Searched j i best least) (k : RunBelow least (j i) r) where
+  -- the test of the run that the code has is that of the definitions' run
+  same-test : (t : Bool) → lt_z r.cost least ≡ t → lt_z (j i).cost least ≡ t
+  same-test t e = go (lt_z (j i).cost least) refl
+    where
+      go : (u : Bool) → lt_z (j i).cost least ≡ u → lt_z (j i).cost least ≡ t
+      go true q = let z : lt_z r.cost least ≡ true = rw (k.below q) q in q ∙ sym z ∙ e
+      go false q = q ∙ sym (lt_no r.cost least (k.above q)) ∙ e
+
+  -- S5: a run replaces the best one found so far only if its cost is lower, so the leftmost of equals stays
+  pub searched-taken : lt_z r.cost least ≡ true → Searched j (i + 1) (Some r) r.cost
+  unfolding found_among
+  searched-taken e =
+      let t = same-test true e in
+      let q = k.below t in
+      let taken : lt_z (j i).cost (least_so_far j i) ≡ true = rw s.least_is at t in
+      rw add-one (record { same = rw (taken, q) refl; least_is = rw (taken, q) refl; small = k.small })
+
+  pub searched-left : lt_z r.cost least ≡ false → Searched j (i + 1) best least
+  unfolding found_among
+  searched-left e =
+      let left : lt_z (j i).cost (least_so_far j i) ≡ false = rw s.least_is at (same-test false e) in
+      rw add-one (record { same = rw left s.same; least_is = rw left s.least_is; small = s.small })
 
 -- of the runs that start at number 0, 1, .., last
 pub searched-to : (e : Closeness) (read : Reader) (ss : List Segment) (last len : ℕ)
@@ -134,22 +158,24 @@ module _ (pick : ℕ → Join) (count : ℕ) where
       let q : suc count - n ≡ suc (suc count - (n + 1)) = omega arith in
       rw (q, add-one) refl
 
-  pub length_found : (n : ℕ) (b : Found) → n ≤ count → join_found b.found b.join ≡ where_below (pick n) → b.found ≡ true
-      → join_found b.found b.join ≡ from_length n
-  length_found n b h s t = go (lt_z (pick n).cost (pos 0)) refl
+  -- a join that the length n gives comes next
+  pub length_found : (n : ℕ) (b : Found Join) → n ≤ count → join_found b ≡ where_below (pick n) → is_some b ≡ true → join_found b ≡ from_length n
+  length_found n None h s t = absurd (false≢true t)
+  length_found n (Some r) h s t = go (lt_z (pick n).cost (pos 0)) refl
     where
-      go : (u : Bool) → lt_z (pick n).cost (pos 0) ≡ u → join_found b.found b.join ≡ from_length n
+      go : (u : Bool) → lt_z (pick n).cost (pos 0) ≡ u → some r ≡ from_length n
       go true k =
-          let z : join_found b.found b.join ≡ some (pick n) = rw k at s in
+          let z : some r ≡ some (pick n) = rw k at s in
           z ∙ sym (one-length n h ∙ rw k refl)
-      go false k = let z : some b.join ≡ none = rw (t, k) at s in absurd (some-ne-none b.join z)
+      go false k = let z : some r ≡ none = rw k at s in absurd (some-ne-none r z)
 
-  pub length-passed : (n : ℕ) (b : Found) → n ≤ count → join_found b.found b.join ≡ where_below (pick n) → b.found ≡ false
-      → from_length n ≡ from_length (n + 1)
-  length-passed n b h s t = go (lt_z (pick n).cost (pos 0)) refl
+  -- where it gives none, what comes next is what the longer ones give
+  pub length-passed : (n : ℕ) (b : Found Join) → n ≤ count → join_found b ≡ where_below (pick n) → is_some b ≡ false → from_length n ≡ from_length (n + 1)
+  length-passed n (Some r) h s t = absurd (false≢true (sym t))
+  length-passed n None h s t = go (lt_z (pick n).cost (pos 0)) refl
     where
       go : (u : Bool) → lt_z (pick n).cost (pos 0) ≡ u → from_length n ≡ from_length (n + 1)
-      go true k = let z : none ≡ some (pick n) = rw (t, k) at s in absurd (none-ne-some (pick n) z)
+      go true k = let z : none ≡ some (pick n) = rw k at s in absurd (none-ne-some (pick n) z)
       go false k = one-length n h ∙ rw k refl
 
   pub no_length : (n : ℕ) → count < n → from_length n ≡ none
@@ -160,3 +186,25 @@ pub from-two : (e : Closeness) (read : Reader) (all : List Segment) (round : Boo
     → next_among e read all round count ≡ from_length (λ n. cheapest e read all (last_start round count n) n) count 2
 unfolding next_among
 from-two e read all round count = let q : count - 1 ≡ suc count - 2 = omega arith in rw q refl
+
+-- ---- the runs among the segments that two lists hold for a search, and the cheapest one of each length
+abbrev pub run_from : (e : Closeness) (h s p : List ℕ) (round : Bool) (n len : ℕ) → ℕ → Join
+run_from e h s p round n len k = join_of e (line_reader h) (segments_held s p 0 (held_count round n)) k len
+
+abbrev pub cheapest_of : (e : Closeness) (h s p : List ℕ) (round : Bool) (n : ℕ) → ℕ → Join
+cheapest_of e h s p round n len = cheapest e (line_reader h) (segments_held s p 0 (held_count round n)) (last_start round n len) len
+
+-- a run of len of n segments ends among those held
+pub run-held : (round : Bool) (n len i : ℕ) → 2 ≤ len → len ≤ n → i < suc (last_start round n len) → i + len ≤ held_count round n
+run-held true n len i a b l = omega arith
+run-held false n len i a b l = omega arith
+
+-- those known not to be joinable start among them
+pub known-held : (round : Bool) (n known len : ℕ) → known ≤ n → 2 ≤ len → len ≤ n → suc known - len ≤ suc (last_start round n len)
+known-held true n known len a two b = omega arith
+known-held false n known len a two b = omega arith
+
+-- a run is the same, of however many segments beyond it
+pub same-run : (e : Closeness) (h s p : List ℕ) (n i len : ℕ) → 1 ≤ len → i + len ≤ n
+    → join_of e (line_reader h) (segments_held s p 0 (i + len)) i len ≡ join_of e (line_reader h) (segments_held s p 0 n) i len
+same-run e h s p n i len one fit = run_is e h s p (i + len) i len one (omega arith) ∙ sym (run_is e h s p n i len one fit)

@@ -1,6 +1,6 @@
 -- How the code holds segments: in two lists, the first n + 1 separators and the first n peaks. No public promise cites it. Assumes nothing.
-use Rattle.std.specs.Prelude.{ℕ, zero, suc, Bool, cond, List, [], ◌∷◌, get_or}
-use Rattle.std.proofs.Math.Option.{Option, none, some}
+use Rattle.std.specs.Prelude.{ℕ, zero, suc, List, [], ◌∷◌, get_or, Option, None, Some}
+use Rattle.std.proofs.Math.Option as maybe
 use Rattle.segmentation.specs.Segments.{Segment}
 use Rattle.segmentation.specs.Joining.{Join}
 
@@ -10,6 +10,7 @@ segments_held separators peaks i zero = []
 segments_held separators peaks i (suc n) =
     record { start = get_or separators i 0; peak = get_or peaks i 0; end = get_or separators (suc i) 0 } ∷ segments_held separators peaks (suc i) n
 
--- a join that was found, or none
-abbrev pub join_found : Bool → Join → Option Join
-join_found found j = cond found (some j) none
+-- what the code found, a join or none, as the definitions have it
+abbrev pub join_found : Option Join → maybe.Option Join
+join_found None = maybe.none
+join_found (Some j) = maybe.some j

@@ -7,7 +7,6 @@ use Rattle.logarithm.specs.Sheet.{log_sheet}
 use Rattle.verdict.specs.Test.{Closeness}
 use Rattle.verdict.specs.Settings.{last_setting}
 use Rattle.pooling.specs.Limits.{Small}
-use Rattle.segmentation.specs.declared.Found.{Found}
 use Rattle.segmentation.specs.Segments.{Segment, segment_at, bin_at}
 use Rattle.segmentation.specs.Joining.{Reader, Join, join_of, last_start}
 use Rattle.segmentation.specs.Held.{segments_held}
@@ -70,10 +69,6 @@ pub record RunBelow (least : ℤ) (j r : Join) : Type 0 where
 -- S4: a run by its two costs
 abbrev pub join_by : ℕ → ℕ → ℤ → ℤ → Join
 join_by i n rise fall = record { first = i; len = n; rise = lt_z rise fall; cost = cond (lt_z rise fall) rise fall }
-
--- S5: a run replaces the best one found so far only if its cost is lower, so the leftmost of equals stays
-unfoldable pub better_of : Found → Join → Found
-better_of best next = cond (lt_z next.cost best.join.cost) (record { found = true; join = next }) best
 
 -- S4: the run, if it is joinable
 abbrev pub where_below : Join → Option Join

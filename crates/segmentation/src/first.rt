@@ -5,6 +5,8 @@ ghost use Rattle.segmentation.specs.Segments.{first_separators, first_highest, f
 ghost use Rattle.segmentation.specs.Held.{segments_held};
 ghost use Rattle.segmentation.specs.Walk.{fell_after, pending, InLine, PeaksHeld};
 
+use crate::Segments;
+
 // The bin where the counts last fell, if they fell and have not risen since, else 0. `fell` is that bin before the step to bin i; the
 // step goes from a bin of x counts to one of y.
 fn fell_after(fell: usize, i: usize, x: u32, y: u32) -> usize
@@ -36,18 +38,17 @@ fn first_separators(h: &[u32], separators: &mut [u32]) -> usize
     requires { (2 ≤ length h.now) × (length h.now ≤ most_bins) × (length h.now ≤ length separators.old) }
     ensures { (result < length h.now) × (take (result + 1) separators.new ≡ first_separators h.now) }
 {
+    let last = h.len() - 1;
     let mut n: usize = 1;
     let mut fell: usize = 0;
-    let mut i: usize = 0;
     separators[0] = 0;
-    while i + 1 < h.len() {
+    for i in 0..last {
         let x = h[i];
-        i += 1;
-        let y = h[i];
+        let y = h[i + 1];
         n = put_valley(separators, n, fell, x < y);
-        fell = fell_after(fell, i, x, y);
+        fell = fell_after(fell, i + 1, x, y);
     }
-    separators[n] = i as u32;
+    separators[n] = last as u32;
     n
 }
 
@@ -57,9 +58,7 @@ fn first_highest(h: &[u32], start: usize, end: usize) -> usize
     ensures { (result ≤ end) × (result ≡ first_highest h.now start (end - start)) }
 {
     let mut best = start;
-    let mut i = start;
-    while i < end {
-        i += 1;
+    for i in start + 1..end + 1 {
         if h[best] < h[i] {
             best = i;
         }
@@ -73,21 +72,21 @@ fn first_peaks(h: &[u32], separators: &[u32], peaks: &mut [u32], n: usize)
     requires in_line { InLine h.now separators.now n }
     ensures { PeaksHeld h.now separators.now peaks.new n }
 {
-    let mut m = 0;
-    while m < n {
+    for m in 0..n {
         let start = separators[m] as usize;
         let end = separators[m + 1] as usize;
         peaks[m] = first_highest(h, start, end) as u32;
-        m += 1;
     }
 }
 
-// Writes the first segments of a line. Returns how many there are.
-pub fn first_segments(h: &[u32], separators: &mut [u32], peaks: &mut [u32]) -> usize
-    requires { (2 ≤ length h.now) × (length h.now ≤ most_bins) × (length h.now ≤ length separators.old) × (length h.now ≤ length peaks.old) }
-    ensures { segments_held separators.new peaks.new 0 result ≡ first_segments h.now }
-{
-    let n = first_separators(h, separators);
-    first_peaks(h, separators, peaks, n);
-    n
+impl<const N: usize> Segments<N> {
+    // Becomes the first segments of a line.
+    pub fn first_segments(&mut self, h: &[u32])
+        requires { (2 ≤ length h.now) × (length h.now ≤ most_bins) × (length h.now ≤ N) }
+        ensures { segments_held self.new.separators self.new.peaks 0 self.new.count ≡ first_segments h.now }
+    {
+        let n = first_separators(h, &mut self.separators);
+        first_peaks(h, &self.separators, &mut self.peaks, n);
+        self.count = n;
+    }
 }

@@ -1,0 +1,34 @@
+-- The search goes through all runs of the line. Assumes nothing.
+use Rattle.std.proofs.Common.{false, sym, ap, ◌∙◌, arith, rules}
+use Rattle.verdict.specs.Settings.{closeness_of}
+use Rattle.segmentation.specs.Joining.{line_reader, next_among, next_join}
+use Rattle.segmentation.specs.Held.{segments_held}
+use Rattle.segmentation.proofs.Holding.{held-length}
+use Rattle.segmentation.proofs.RunsInside.{line-inside}
+use Rattle.segmentation.proofs.Stepping.{on-line-count}
+use Rattle.segmentation.proofs.Segments.next_on_line.Goals as goal
+
+pub next_join-requires : goal.next_join-requires
+next_join-requires g c =
+    let a = c.args in
+    let s = a.self.now in
+    let on = c.requires in
+    let k = on-line-count a.sheet.now a.setting a.h.now s.separators s.peaks s.count on in (
+      search rules,
+      (
+        on.prepared,
+        (
+          line-inside a.h.now s.separators s.peaks s.count on.small on.cut,
+          (λ n two i l. absurd (omega arith), (k.0, omega (arith, k, on.small.bins), omega arith)),
+        ),
+      ),
+    )
+
+pub returns : goal.returns
+unfolding next_join
+returns g c =
+    let a = c.args in
+    let s = a.self.now in
+    c.next_join.ensures
+    ∙ ap (next_among (closeness_of a.setting) (line_reader a.h.now) (segments_held s.separators s.peaks 0 s.count) false)
+    (sym (held-length s.separators s.peaks 0 s.count))
