@@ -8,6 +8,7 @@ use crate::{Logarithm, Numbers, Odd, by_rounds};
 pub const SHEET_SIZE: usize = 1024;
 
 // The sheet, to be lent to all that take logarithms: a constant array is laid on the stack whenever it is indexed, so it is copied only once.
+#[derive(Drop)]
 pub struct Sheet {
     logs: [u32; SHEET_SIZE],
     ghost stored: { logs ≡ log_sheet },

@@ -1,6 +1,6 @@
 -- What a search knows of the stretch that it tests: its fit, and the best part so far. No public promise cites it. Assumes nothing.
 use Rattle.std.specs.Prelude.{ℕ, List, ℤ}
-use Rattle.lists.specs.Lists.{total, part}
+use Rattle.lists.specs.Lists.{total}
 use Rattle.pooling.specs.declared.Block.{Block}
 use Rattle.pooling.specs.Blocks.{direction, blocks}
 use Rattle.verdict.specs.declared.Mass.{Mass}

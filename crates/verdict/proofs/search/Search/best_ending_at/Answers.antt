@@ -1,5 +1,5 @@
 -- The near parts are no better than the best so far, and the part that is weighed is taken in.
-use Rattle.std.proofs.Common.{◌≡◌, refl, sym, ap, ◌∙◌, ℕ, suc, ◌+◌, ◌<◌, ◌≤◌, ℤ, ◌≤ℤ◌, List, length, arith}
+use Rattle.std.proofs.Common.{◌≡◌, refl, ℕ, suc, ◌<◌, ◌≤◌, ℤ, List, length, arith}
 use Rattle.lists.specs.Lists.{total}
 use Rattle.lists.proofs.Signed.{le-trans-ℤ}
 use Rattle.pooling.specs.declared.Place.{Place}
