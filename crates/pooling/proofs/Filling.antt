@@ -1,96 +1,85 @@
--- The places of blocks, in three buffers, block by block from the first. Assumes nothing.
+-- The places of blocks, written into a buffer block by block from the first. Assumes nothing.
 use mathlib.Core.Path.{◌≡◌, refl, sym, ◌∙◌, ap}
-use mathlib.Core.List.{List, ◌++◌, map, map-append}
-use Prim.Native.Nat.{ℕ, ◌+◌, ◌-◌, ◌≤◌, ◌<◌}
+use mathlib.Core.List.{List, [], ◌∷◌, ◌++◌, reverse, append_assoc}
+use Prim.Native.Nat.{ℕ, ◌+◌, ◌≤◌}
 use native.Mathlib.Omega.{arith}
-use lib.ListN.{length, get_or, take, drop, replicate, length-map, length-replicate}
-use lib.Seq.{length-take-le, take_all, take_at, take-add, drop-drop, drop_at}
+use lib.ListN.{length, take, drop, replicate, length-append, length-replicate}
+use lib.Seq.{length-take-le, take_all, take_at, take-add, take-append_seam, drop-drop, drop_at}
+use borrow.Rule.Slice.PartMut.{put_mid}
+use Rattle.std.proofs.lemmas.List.{reverse-append}
 use Rattle.lists.specs.Lists.{over}
-use Rattle.lists.proofs.Buffers.{over-more}
-use Rattle.lists.proofs.Repeats.{map-replicate}
-use Rattle.pooling.specs.Blocks.{Direction, Place, blocks, places_from, places}
-use Rattle.pooling.specs.Stack.{stack_of, bins_in}
-use Rattle.pooling.proofs.Cuts.{cut-bins, cut-few}
+use Rattle.pooling.specs.Blocks.{Block, Direction, Place, blocks, places_from, places}
+use Rattle.pooling.specs.Stack.{bins_in}
+use Rattle.pooling.proofs.Cuts.{cut-bins}
 use Rattle.pooling.proofs.Laws.{blocks-cut}
-use Rattle.pooling.proofs.Stacking.{block_at, stack-length, stack_top, bins-top}
 use Rattle.pooling.proofs.Places.{places-length}
 
--- a buffer that has one figure of each of the first places
-abbrev pub Filled : Direction → List ℕ → (Place → ℕ) → ℕ → List ℕ → List ℕ → Type 0
-Filled w h f from buffer₀ buffer = (length buffer ≡ length buffer₀) × (buffer ≡ over (map f (take from (places w h))) buffer₀)
-
-pub filled_none : (w : Direction) (h : List ℕ) (f : Place → ℕ) (buffer : List ℕ) → Filled w h f 0 buffer buffer
+-- a part of a buffer, right after the list in its first places
+over-part : {A : Type 0} (xs ys buffer : List A) (i k : ℕ) → i ≡ length xs → k ≡ length ys → put_mid i k (over xs buffer) ys ≡ over (xs ++ ys) buffer
 unfolding over
-filled_none w h f buffer = (refl, refl)
+over-part xs ys buffer i k e f =
+    rw (e, f)
+    (ap (λ z. z ++ (ys ++ drop (length ys) (drop (length xs) (xs ++ drop (length xs) buffer)))) (take-append_seam xs (drop (length xs) buffer))
+    ∙ ap (λ z. xs ++ (ys ++ drop (length ys) z)) (drop_at xs (drop (length xs) buffer) (length xs) refl)
+    ∙ ap (λ z. xs ++ (ys ++ z)) (drop-drop (length ys) (length xs) buffer ∙ ap (λ n. drop n buffer) (sym (length-append xs ys)))
+    ∙ sym (append_assoc xs ys (drop (length (xs ++ ys)) buffer)))
 
--- with all blocks in, it has that figure of each bin's place
-pub filled-all : (w : Direction) (h : List ℕ) (f : Place → ℕ) (from : ℕ) (buffer₀ buffer : List ℕ) → from ≡ length h → Filled w h f from buffer₀ buffer
-    → buffer ≡ over (map f (places w h)) buffer₀
-filled-all w h f from buffer₀ buffer e held =
-    held.1 ∙ ap (λ (z : List Place). over (map f z) buffer₀) (take_all from (places w h) (omega (arith, places-length w h)))
+module _ (w : Direction) (h : List ℕ) where
+  -- the blocks from bin `from` on
+  pub record Left (bs : List Block) (from : ℕ) : Type 0 where
+    pub within : from + bins_in bs ≡ length h
+    pub rest : places_from from bs ≡ drop from (places w h)
 
-module _ (w : Direction) (h ss ls : List ℕ) where
-  -- there are no more blocks than bins
-  pub blocks-few : (n : ℕ) → stack_of ss ls n ≡ blocks w h → n ≤ length h
-  blocks-few n e = omega (arith, stack-length ss ls n, ap length e, cut-few (blocks-cut w h))
-
-  -- the first k places of the stack still hold the blocks from bin `from` on
-  pub record Left (k from : ℕ) : Type 0 where
-    pub within : from + bins_in (stack_of ss ls k) ≡ length h
-    pub rest : places_from from (stack_of ss ls k) ≡ drop from (places w h)
-
-  pub left-all : (n : ℕ) → stack_of ss ls n ≡ blocks w h → Left n 0
+  pub left-all : (bs : List Block) → bs ≡ blocks w h → Left bs 0
   unfolding places
-  left-all n e = record { within = omega (arith, ap bins_in e, cut-bins (blocks-cut w h)); rest = ap (places_from 0) e }
+  left-all bs e = record { within = omega (arith, ap bins_in e, cut-bins (blocks-cut w h)); rest = ap (places_from 0) e }
 
-  -- with no block left, all bins are passed
-  pub left-none : (k from : ℕ) → k ≡ 0 → Left k from → from ≡ length h
-  unfolding stack_of bins_in
-  left-none k from z v = omega (arith, v.within, ap (λ (m : ℕ). bins_in (stack_of ss ls m)) z)
+  -- with no block left, all bins are passed, and the buffer has each bin's place
+  pub left-none : (bs : List Block) (from : ℕ) (buffer₀ buffer : List Place) → length bs ≡ 0 → Left bs from → buffer ≡ over (take from (places w h)) buffer₀ → buffer ≡ over (places w h) buffer₀
+  unfolding bins_in
+  left-none (b ∷ bs) from buffer₀ buffer z v held = absurd (omega arith)
+  left-none [] from buffer₀ buffer z v held =
+      held ∙ ap (λ (ps : List Place). over ps buffer₀) (take_all from (places w h) (omega (arith, places-length w h, v.within)))
 
-  -- the first of them, as the arrays have it
-  abbrev pub first-left : ℕ → ℕ → Place
-  first-left k from = record { start = from; block = block_at ss ls (k - 1) }
+  -- the first of the blocks left
+  module _ (b : Block) (bs : List Block) (from : ℕ) (v : Left (b ∷ bs) from) where
+    abbrev first-left : Place
+    first-left = record { start = from; block = b }
 
-  module _ (k from : ℕ) (some : 0 < k) (v : Left k from) where
-    split : drop from (places w h) ≡ replicate (get_or ls (k - 1) 0) (first-left k from) ++ places_from (from + get_or ls (k - 1) 0) (stack_of ss ls (k - 1))
+    split : drop from (places w h) ≡ replicate b.len first-left ++ places_from (from + b.len) bs
     unfolding places_from
-    split = sym v.rest ∙ ap (places_from from) (stack_top ss ls k some)
+    split = sym v.rest
 
-    pub left-next : Left (k - 1) (from + get_or ls (k - 1) 0)
-    left-next =
-        let l = get_or ls (k - 1) 0 in
-        record {
-          within = omega (arith, v.within, bins-top ss ls k some);
-          rest = sym (sym (drop-drop l from (places w h)) ∙ ap (drop l) split ∙ drop_at (replicate l (first-left k from)) _ l (length-replicate l (first-left k from)));
-        }
+    pub left-room : from + b.len ≤ length h
+    unfolding bins_in
+    left-room = omega (arith, v.within)
 
-    pub left-room : from + get_or ls (k - 1) 0 ≤ length h
-    left-room = omega (arith, v.within, bins-top ss ls k some)
+    pub left-next : Left bs (from + b.len)
+    unfolding bins_in
+    left-next = record {
+      within = omega (arith, v.within);
+      rest = sym (sym (drop-drop b.len from (places w h)) ∙ ap (drop b.len) split ∙ drop_at (replicate b.len first-left) _ b.len (length-replicate b.len first-left));
+    }
 
     -- the places up to the end of this block
-    taken_next : take (from + get_or ls (k - 1) 0) (places w h) ≡ take from (places w h) ++ replicate (get_or ls (k - 1) 0) (first-left k from)
+    taken_next : take (from + b.len) (places w h) ≡ take from (places w h) ++ replicate b.len first-left
     taken_next =
-        let l = get_or ls (k - 1) 0 in
-        take-add from l (places w h) ∙ ap (λ (z : List Place). take from (places w h) ++ z)
-        (ap (take l) split ∙ take_at (replicate l (first-left k from)) _ l (length-replicate l (first-left k from)))
+        take-add from b.len (places w h) ∙ ap (λ (z : List Place). take from (places w h) ++ z)
+        (ap (take b.len) split ∙ take_at (replicate b.len first-left) _ b.len (length-replicate b.len first-left))
 
-    -- a buffer that is filled with this block's figure too
-    pub filled_more : (f : Place → ℕ) (buffer₀ buffer buffer' : List ℕ) → Filled w h f from buffer₀ buffer
-        → length buffer' ≡ length buffer
-        → buffer' ≡ over (take from buffer ++ replicate (from + get_or ls (k - 1) 0 - from) (f (first-left k from))) buffer
-        → Filled w h f (from + get_or ls (k - 1) 0) buffer₀ buffer'
-    filled_more f buffer₀ buffer buffer' held l p =
-        let n = get_or ls (k - 1) 0 in
-        let xs = map f (take from (places w h)) in
-        let v' = f (first-left k from) in
-        let long : length xs ≡ from = length-map (take from (places w h)) f ∙ length-take-le from (places w h) (omega (arith, places-length w h, left-room)) in
-        let count : from + n - from ≡ n = omega arith in
-        let more : map f (take (from + n) (places w h)) ≡ xs ++ replicate n v' =
-        ap (map f) taken_next ∙ map-append f (take from (places w h)) (replicate n (first-left k from)) ∙ ap (λ (z : List ℕ). xs ++ z) (map-replicate f n (first-left k from)) in (
-          l ∙ held.0,
-          p ∙ ap (λ (z : List ℕ). over (take from z ++ replicate (from + n - from) v') z) held.1
-              ∙ ap (λ (m : ℕ). over (take from (over xs buffer₀) ++ replicate m v') (over xs buffer₀)) count
-              ∙ ap (λ (m : ℕ). over (take m (over xs buffer₀) ++ replicate n v') (over xs buffer₀)) (sym long)
-              ∙ over-more xs (replicate n v') buffer₀ ∙ ap (λ (z : List ℕ). over z buffer₀) (sym more),
-        )
+    -- a buffer that is filled with this block's places too
+    pub filled_more : (buffer₀ buffer part : List Place) (k m : ℕ) → buffer ≡ over (take from (places w h)) buffer₀
+        → k ≡ b.len → m ≡ b.len → part ≡ replicate m first-left
+        → put_mid from k buffer part ≡ over (take (from + b.len) (places w h)) buffer₀
+    filled_more buffer₀ buffer part k m held e f g =
+        let xs = take from (places w h) in
+        let ys : part ≡ replicate b.len first-left = g ∙ ap (λ (n : ℕ). replicate n first-left) f in
+        let long : length xs ≡ from = length-take-le from (places w h) (omega (arith, places-length w h, left-room)) in
+        ap (λ (z : List Place). put_mid from k z part) held
+        ∙ ap (λ (z : List Place). put_mid from k (over xs buffer₀) z) ys
+        ∙ over-part xs (replicate b.len first-left) buffer₀ from k (sym long) (e ∙ sym (length-replicate b.len first-left))
+        ∙ ap (λ (z : List Place). over z buffer₀) (sym taken_next)
+
+-- the last of a list is the first of it reversed
+pub reverse_push : (bs cs : List Block) (b : Block) → bs ≡ cs ++ (b ∷ []) → reverse bs ≡ b ∷ reverse cs
+reverse_push bs cs b e = ap reverse e ∙ reverse-append cs (b ∷ [])
