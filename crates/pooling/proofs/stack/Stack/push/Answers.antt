@@ -1,5 +1,5 @@
 -- What the loop of `push` keeps, and what it makes: the push of the definitions.
-use Rattle.std.proofs.Common.{◌≡◌, ◌<◌, ◌≤◌, ◌∙◌, length, sym, ap, arith}
+use Rattle.std.proofs.Common.{◌<◌, ◌≤◌, ◌∙◌, length, sym, ap, arith}
 use Rattle.pooling.specs.Blocks.{direction, push}
 use Rattle.pooling.proofs.Stacking.{stack-length, sum_top, bins-top, push-none, push-strict, push-merged, stack-store}
 use Rattle.pooling.proofs.stack.Stack.push.Goals as goal
