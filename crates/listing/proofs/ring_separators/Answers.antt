@@ -42,7 +42,7 @@ write_numbers-requires c =
     let m = (goal.at.write_numbers-requires c).After-ring_modes-found in
     let places = take c.ring_modes-found.result.modes c.ring_modes-found.new.places in
     let from : c.first_past_last-from.result ≤ length places = subst (λ (k : ℕ). k ≤ length places) (sym c.first_past_last-from.ensures) (first-within _ places) in
-    record { from_in_bounds = (from, omega (arith, long m, few m), omega (arith, long m, few m)) }
+    record { from_in_bounds = (omega arith, omega (arith, long m, few m), omega (arith, long m, few m)) }
 
 pub overflow_cast-result : goal.overflow_cast-result
 overflow_cast-result c = omega (arith, few (goal.at.overflow_cast-result c).After-ring_modes-found)
