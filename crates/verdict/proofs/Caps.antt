@@ -108,10 +108,6 @@ module _ (h : List ℕ) (bs : List Block) (limit : ℤ) where
   pub best_none : {visited : ℕ → ℕ → Type 0} {r : ℤ} → Attained h bs r → ((i j : ℕ) → visited i j → ⊥) → BestOf h bs limit visited r
   best_none a none = record { attained = a; bounds = λ e i j v. absurd (none i j v) }
 
-  -- no other is visited
-  pub best-same : {some all : ℕ → ℕ → Type 0} {r : ℤ} → BestOf h bs limit some r → ((i j : ℕ) → all i j → some i j) → BestOf h bs limit all r
-  best-same b within = record { attained = b.attained; bounds = λ e i j v. b.bounds e i j (within i j v) }
-
   -- the limit is reached: the others need no visit
   pub best-stops : {some all : ℕ → ℕ → Type 0} {r : ℤ} → BestOf h bs limit some r → le_z limit r ≡ true → BestOf h bs limit all r
   best-stops {r = r} b e = record { attained = b.attained; bounds = λ f i j v. absurd (false≢true (sym (lt_no r limit (record { le = rw e tt })) ∙ f)) }
@@ -165,12 +161,6 @@ module _ (h : List ℕ) (bs : List Block) (limit : ℤ) where
       → BestOf h bs limit (EndingAt j (first_of turn (start_of ps j)) (end_of turn (start_of ps j) j)) s → BestOf h bs limit (Visits turn ps (j + 1)) s
   best-bin turn ps j b u c =
       best-raised b u c (λ i m v. by_order m j (λ l. inl (l, v.1, v.2)) (λ l. let e : m ≡ j = omega arith in inr (e, rw e at v.1, rw e at v.2)))
-
-  -- both turns
-  pub best-turns : (ps : List Place) {r s : ℤ} → BestOf h bs limit (Visits WithinBlocks ps (length h)) r → r ≤ℤ s
-      → BestOf h bs limit (Visits AcrossBlocks ps (length h)) s → BestOf h bs limit (Part h) s
-  best-turns ps b u c =
-      best-raised b u c (λ i j v. by_order i (start_of ps j) (λ l. inr (v.1, omega arith, l)) (λ l. inl (v.1, l, omega arith)))
 
   -- all are visited: the best is the largest where that is below the limit, else it reaches the limit
   module _ (some : 0 < length h) (r : ℤ) (b : BestOf h bs limit (Part h) r) where

@@ -46,9 +46,6 @@ running-between h before a b l m r =
     let e : b ≡ a + (b - a) = omega arith in
     r b m ∙ ap (λ (n : ℕ). total (take n h)) e ∙ omega (arith, total-take-add a (b - a) h, r a (omega arith))
 
-pub running-all : (h before : List ℕ) → RunningTotals h before → get_or before (length h) 0 ≡ total h
-running-all h before r = r (length h) (le_refl (length h)) ∙ ap total (take-length h)
-
 -- the counts of a part, from the totals before its first bin and behind its last
 pub running-part : (h before : List ℕ) (i j : ℕ) → i ≤ j → j < length h → RunningTotals h before
     → get_or before (j + 1) 0 ≡ get_or before i 0 + total (part i j h)
