@@ -108,6 +108,10 @@ module _ (h : List ℕ) (bs : List Block) (limit : ℤ) where
   pub best_none : {visited : ℕ → ℕ → Type 0} {r : ℤ} → Attained h bs r → ((i j : ℕ) → visited i j → ⊥) → BestOf h bs limit visited r
   best_none a none = record { attained = a; bounds = λ e i j v. absurd (none i j v) }
 
+  -- no other is visited
+  pub best-same : {some all : ℕ → ℕ → Type 0} {r : ℤ} → BestOf h bs limit some r → ((i j : ℕ) → all i j → some i j) → BestOf h bs limit all r
+  best-same b within = record { attained = b.attained; bounds = λ e i j v. b.bounds e i j (within i j v) }
+
   -- the limit is reached: the others need no visit
   pub best-stops : {some all : ℕ → ℕ → Type 0} {r : ℤ} → BestOf h bs limit some r → le_z limit r ≡ true → BestOf h bs limit all r
   best-stops {r = r} b e = record { attained = b.attained; bounds = λ f i j v. absurd (false≢true (sym (lt_no r limit (record { le = rw e tt })) ∙ f)) }

@@ -1,15 +1,19 @@
--- Signed numbers as the machine holds them: read from their bits, added and subtracted, and one that is not negative read as a natural number. Assumes nothing.
+-- Signed numbers as the machine holds them: compared, read from their bits, added and subtracted, and one that is not negative read as a natural number. Assumes nothing.
 use mathlib.Core.Path.{◌≡◌, sym, ap, ◌∙◌}
 use mathlib.Core.Bool.{Bool}
 use Prim.Native.Nat.{ℕ, ◌+◌, ◌-◌, ◌^◌, ◌≤◌, ◌<◌}
 use native.Mathlib.Omega.{arith}
-use lib.Dec.{T, le→leb}
-use lib.IntN.{ℤ, pos, negsuc, nat_abs, sub_ℕ, ◌+ℤ◌, ◌-ℤ◌}
-use lib.Signed.{lt_z, mag, non_neg, ◌≤ℤ◌}
+use lib.Dec.{le→leb}
+use lib.IntN.{ℤ, pos, negsuc, nat_abs, ◌+ℤ◌, ◌-ℤ◌}
+use lib.Signed.{lt_z, mag, ◌≤ℤ◌}
 use mir.Syntax.{w64}
-use mir.Val.{Fits, SFits, to_z, of_z}
-use mir.ValLaws.{to_z_pos, to_z-of_z}
-use Rattle.lists.proofs.Signed.{difference-is, difference_below, sum-size, less-size}
+use mir.Val.{SFits, to_z, of_z}
+use mir.ValLaws.{to_z-of_z}
+use Rattle.lists.proofs.Signed.{sum-size, less-size}
+
+-- the machine's test of two signed numbers
+pub machine-less : (x y : ℤ) (t : Bool) → SFits w64 x → SFits w64 y → lt_z (to_z w64 (of_z w64 x)) (to_z w64 (of_z w64 y)) ≡ t → lt_z x y ≡ t
+machine-less x y t f g e = sym (ap (λ (z : ℤ). lt_z z y) (to_z-of_z w64 x f)) ∙ sym (ap (λ (z : ℤ). lt_z (to_z w64 (of_z w64 x)) z) (to_z-of_z w64 y g)) ∙ e
 
 -- a signed number that a call hands back is read from its bits as it is
 pub handed-back : {z : ℤ} → mag z < 2 ^ 63 → to_z w64 (of_z w64 z) ≡ z

@@ -3,16 +3,14 @@ use Prim.Native.Nat.{ℕ, zero, suc, ◌+◌, ◌*◌, ◌-◌, ◌/◌, ◌%◌
 use mathlib.Core.Path.{◌≡◌, refl, ap}
 use mathlib.Core.Bool.{true}
 use mathlib.Core.Logic.{⊎_elim}
-use lib.Dec.{ltb}
 use lib.IntN.{ℤ, pos}
 use lib.Signed.{◌≤ℤ◌}
 use lib.Pow.{pow-add, pow_pos}
 use native.Mathlib.Omega.{arith}
 use Rattle.std.specs.Prelude.{min}
 use Rattle.std.proofs.Math.Nat.{min-le_left, min-le_right}
-use native.Mathlib.Nat.{mul_comm, zero-mul, le_trans, le_refl, le_of_eq, le_of_lt, lt_of_lt_of_le, mul-le-mul, mul-le-mul_right, mul-pos, div-mul-le_self, mod-le, zero-div}
-use borrow.Author.Tests.{leb-true, ltb-true, ltb-false}
-use Rattle.lists.proofs.Cases.{by_cond}
+use native.Mathlib.Nat.{mul_comm, zero-mul, le_trans, le_of_eq, lt_of_lt_of_le, mul-le-mul, mul-le-mul_right, mul-pos, div-mul-le_self, mod-le, zero-div}
+use borrow.Author.Tests.{leb-true}
 use Rattle.lists.proofs.Connectives.{either_true}
 use Rattle.lists.proofs.Signed.{le-trans-ℤ}
 use Rattle.logarithm.specs.Log.{units_per_bit}
