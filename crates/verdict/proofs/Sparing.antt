@@ -3,16 +3,14 @@ use Prim.Native.Nat.{ℕ, zero, suc, ◌+◌, ◌*◌, ◌-◌, ◌/◌, ◌%◌
 use mathlib.Core.Path.{◌≡◌, refl, ap}
 use mathlib.Core.Bool.{true}
 use mathlib.Core.Logic.{⊎_elim}
-use lib.Dec.{ltb}
 use lib.IntN.{ℤ, pos}
 use lib.Signed.{◌≤ℤ◌}
 use lib.Pow.{pow-add, pow_pos}
 use native.Mathlib.Omega.{arith}
 use Rattle.std.specs.Prelude.{min}
 use Rattle.std.proofs.Math.Nat.{min-le_left, min-le_right}
-use native.Mathlib.Nat.{mul_comm, zero-mul, le_trans, le_refl, le_of_eq, le_of_lt, lt_of_lt_of_le, mul-le-mul, mul-le-mul_right, mul-pos, div-mul-le_self, mod-le, zero-div}
-use borrow.Author.Tests.{leb-true, ltb-true, ltb-false}
-use Rattle.lists.proofs.Cases.{by_cond}
+use native.Mathlib.Nat.{mul_comm, zero-mul, le_trans, le_of_eq, lt_of_lt_of_le, mul-le-mul, mul-le-mul_right, mul-pos, div-mul-le_self, mod-le, zero-div}
+use borrow.Author.Tests.{leb-true}
 use Rattle.lists.proofs.Connectives.{either_true}
 use Rattle.lists.proofs.Signed.{le-trans-ℤ}
 use Rattle.logarithm.specs.Log.{units_per_bit}
@@ -34,13 +32,6 @@ room_small a b l h =
     let u : b ≤ 2 ^ 32 - 1 = omega arith in
     let s : b * b ≤ (2 ^ 32 - 1) * (2 ^ 32 - 1) = mul-le-mul u u in
     let t : 4 * (a * (b - a)) ≤ b * b = rw all at (four-product a (b - a)) in
-    omega arith
-
-pub scaled_small : (x c : ℕ) → x < 2 ^ 62 → c < 64 → x / 2 ^ 4 * c < 2 ^ 64
-scaled_small x c h k =
-    let u : x / 2 ^ 4 ≤ 2 ^ 58 - 1 = omega arith in
-    let v : c ≤ 63 = omega arith in
-    let s : x / 2 ^ 4 * c ≤ (2 ^ 58 - 1) * 63 = mul-le-mul u v in
     omega arith
 
 -- d·(d + 1)

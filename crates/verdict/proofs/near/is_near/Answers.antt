@@ -1,13 +1,11 @@
 -- No product is too large, and the two tests are those of the definition.
 use Rattle.std.proofs.Common.{◌≡◌, ℕ, refl, sym, ◌∙◌, arith, ◌*◌, ◌^◌, ◌<◌, ◌≤◌, Bool, true, false}
-use Rattle.std.proofs.Math.Nat.{mul-le-mul_right, min-le_left}
-use Rattle.logarithm.proofs.Laws.{square-fits}
+use Rattle.std.proofs.Math.Nat.{mul-le-mul_right}
 use Rattle.verdict.specs.declared.Mass.{Mass}
 use Rattle.verdict.specs.declared.Threshold.{Threshold}
 use Rattle.verdict.specs.Exactness.{LogsDefined}
-use Rattle.verdict.specs.Near.{gap, fitted_room, count_room, is_small, is_near}
-use Rattle.verdict.proofs.Terms.{counted}
-use Rattle.verdict.proofs.Sparing.{room_small, steps-fit}
+use Rattle.verdict.specs.Near.{gap, fitted_room, is_small, is_near}
+use Rattle.verdict.proofs.Sparing.{room_small}
 use Rattle.verdict.proofs.near.is_near.Goals as goal
 
 count-within : (n k : ℕ) (m : Mass) → LogsDefined n k m → k * m.den ≤ n * m.den
