@@ -1,5 +1,5 @@
 // The first separators, segments and peaks of a line.
-ghost use Rattle.std.specs.Prelude.{◌≡◌, ◌++◌, ◌+◌, ◌-◌, ◌^◌, ◌≤◌, ◌<◌, length, take};
+ghost use Rattle.std.specs.Prelude.{◌≡◌, ◌++◌, ◌+◌, ◌-◌, ◌^◌, ◌≤◌, ◌<◌, length, take, IfSome};
 ghost use Rattle.pooling.specs.Limits.{most_bins};
 ghost use Rattle.segmentation.specs.Segments.{first_separators, first_highest, first_segments};
 ghost use Rattle.segmentation.specs.Held.{segments_held};
@@ -7,30 +7,33 @@ ghost use Rattle.segmentation.specs.Walk.{fell_after, pending, InLine, PeaksHeld
 
 use crate::Segments;
 
-// The bin where the counts last fell, if they fell and have not risen since, else 0. `fell` is that bin before the step to bin i; the
-// step goes from a bin of x counts to one of y.
-fn fell_after(fell: usize, i: usize, x: u32, y: u32) -> usize
+// The bin where the counts last fell, if they fell and have not risen since. `fell` is that bin before the step to bin i; the step goes
+// from a bin of x counts to one of y.
+#[tactic(auto, unfolding(crate::specs::Walk::fell_after))]
+fn fell_after(fell: Option<usize>, i: usize, x: u32, y: u32) -> Option<usize>
     ensures { result ≡ fell_after fell i x y }
 {
     if y < x {
-        i
+        Some(i)
     } else if x < y {
-        0
+        None
     } else {
         fell
     }
 }
 
 // When the counts rise, the bin where they last fell becomes a separator. Returns how many separators there are then.
-fn put_valley(separators: &mut [u32], n: usize, fell: usize, rises: bool) -> usize
-    requires { (n < length separators.old) × (fell < 2 ^ 32) }
+fn put_valley(separators: &mut [u32], n: usize, fell: Option<usize>, rises: bool) -> usize
+    requires { (n < length separators.old) × IfSome fell (λ bin. bin < 2 ^ 32) }
     ensures { (result ≤ n + 1) × (take result separators.new ≡ take n separators.old ++ pending fell rises) }
 {
-    if 0 < fell && rises {
-        separators[n] = fell as u32;
-        return n + 1;
+    match fell {
+        Some(bin) if rises => {
+            separators[n] = bin as u32;
+            n + 1
+        }
+        _ => n,
     }
-    n
 }
 
 // Writes the first separators. Returns how many there are before the last one.
@@ -40,7 +43,7 @@ fn first_separators(h: &[u32], separators: &mut [u32]) -> usize
 {
     let last = h.len() - 1;
     let mut n: usize = 1;
-    let mut fell: usize = 0;
+    let mut fell = None;
     separators[0] = 0;
     for i in 0..last {
         let x = h[i];

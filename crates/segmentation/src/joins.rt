@@ -51,7 +51,7 @@ impl<const N: usize> Segments<N> {
     }
 
     // Becomes the modes of a line. A single segment has nothing to join, and needs no sheet.
-    pub fn line(&mut self, h: &[u32], setting: u32)
+    pub(crate) fn line(&mut self, h: &[u32], setting: u32)
         requires small { Small h.now }
         requires in_bounds { (2 ≤ length h.now) × (setting ≤ last_setting) }
         requires h_in_bounds { length h.now ≤ N }
