@@ -4,12 +4,10 @@ use mathlib.Core.Path.{◌≡◌, refl, sym, ap, ◌∙◌}
 use mathlib.Core.Bool.{cond}
 use mathlib.Core.List.{List, [], ◌∷◌}
 use native.Mathlib.Omega.{arith}
-use native.Mathlib.Numerals.{add-one}
 use lib.Dec.{ltb}
-use lib.ListN.{length, take, drop, get_or, set}
-use lib.Seq.{get_or-take, get_or-set_same, get_or-set_other, length-take-le}
+use lib.ListN.{length, take, drop, get_or}
+use lib.Seq.{get_or-take, length-take-le}
 use borrow.Author.Tests.{lt-ltb, le-ltb}
-use Rattle.lists.proofs.Cases.{last_or}
 use Rattle.segmentation.specs.Segments.{bin_at, first_highest, first_separators, segments_from, first_segments}
 use Rattle.segmentation.specs.Held.{segments_held}
 use Rattle.segmentation.specs.Walk.{InLine, PeaksHeld}

@@ -2,7 +2,7 @@
 ghost use Rattle.std.specs.Prelude.{◌≡◌, ◌++◌, ◌+◌, ◌-◌, ◌^◌, ◌≤◌, ◌<◌, length, take, IfSome};
 ghost use Rattle.pooling.specs.Limits.{most_bins};
 ghost use Rattle.segmentation.specs.Segments.{first_separators, first_highest, first_segments};
-ghost use Rattle.segmentation.specs.Held.{segments_held};
+ghost use Rattle.segmentation.specs.Held.{held};
 ghost use Rattle.segmentation.specs.Walk.{fell_after, pending, InLine, PeaksHeld};
 
 use crate::Segments;
@@ -86,7 +86,7 @@ impl<const N: usize> Segments<N> {
     // Becomes the first segments of a line.
     pub fn first_segments(&mut self, h: &[u32])
         requires { (2 ≤ length h.now) × (length h.now ≤ most_bins) × (length h.now ≤ N) }
-        ensures { segments_held self.new.separators self.new.peaks 0 self.new.count ≡ first_segments h.now }
+        ensures { held self.new ≡ first_segments h.now }
     {
         let n = first_separators(h, &mut self.separators);
         first_peaks(h, &self.separators, &mut self.peaks, n);
