@@ -3,7 +3,7 @@ ghost use Rattle.std.specs.Prelude.{◌≡◌, ◌++◌, ◌+◌, ◌-◌, ◌^�
 ghost use Rattle.pooling.specs.Limits.{most_bins};
 ghost use Rattle.segmentation.specs.Segments.{first_separators, first_highest, first_segments};
 ghost use Rattle.segmentation.specs.Held.{held};
-ghost use Rattle.segmentation.specs.Walk.{fell_after, pending, InLine, PeaksHeld};
+ghost use Rattle.segmentation.specs.Walk.{fell_after, pending};
 
 use crate::Segments;
 
@@ -69,27 +69,17 @@ fn first_highest(h: &[u32], start: usize, end: usize) -> usize
     best
 }
 
-// Writes the peaks of the n segments between the first separators.
-fn first_peaks(h: &[u32], separators: &[u32], peaks: &mut [u32], n: usize)
-    requires h_len_bound { (length h.now ≤ most_bins) × (n < length separators.now) × (n ≤ length peaks.old) }
-    requires in_line { InLine h.now separators.now n }
-    ensures { PeaksHeld h.now separators.now peaks.new n }
-{
-    for m in 0..n {
-        let start = separators[m] as usize;
-        let end = separators[m + 1] as usize;
-        peaks[m] = first_highest(h, start, end) as u32;
-    }
-}
-
 impl<const N: usize> Segments<N> {
     // Becomes the first segments of a line.
     pub fn first_segments(&mut self, h: &[u32])
         requires { (2 ≤ length h.now) × (length h.now ≤ most_bins) × (length h.now ≤ N) }
         ensures { held self.new ≡ first_segments h.now }
     {
-        let n = first_separators(h, &mut self.separators);
-        first_peaks(h, &self.separators, &mut self.peaks, n);
-        self.count = n;
+        self.count = first_separators(h, &mut self.separators);
+        for m in 0..self.count {
+            let start = self.separators[m] as usize;
+            let end = self.separators[m + 1] as usize;
+            self.peaks[m] = first_highest(h, start, end) as u32;
+        }
     }
 }
