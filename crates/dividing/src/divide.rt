@@ -1,7 +1,7 @@
 // All pixels divided: the greys by intensity, the colours by hue, saturation and intensity.
 ghost use Rattle.std.specs.Prelude.{◌≡◌, ◌≤◌, ◌*◌, length};
 ghost use Rattle.verdict.specs.Settings.{last_setting, closeness_of};
-ghost use Rattle.palette.specs.Cards.{pixels_of};
+ghost use Rattle.palette.specs.Cards.{pixels_of, most_entries};
 ghost use Rattle.palette.specs.Sound.{most_pixels};
 ghost use Rattle.dividing.specs.Splitting.{left_of, resting, Kept, Divisible};
 ghost use Rattle.dividing.specs.Kinds.{leaves_some, PixelsDivided};
@@ -48,7 +48,7 @@ pub fn divide_pixels(
 )
     requires { (length pixels.now ≡ 3 * length order.old) × (length order.old ≡ length other.old) × (length keys.old ≡ length order.old) × (length order.old ≤ most_pixels)
         × (setting ≤ last_setting) }
-    ensures { PixelsDivided (closeness_of setting) (pixels_of pixels.now) found.old found.new order.new }
+    ensures { PixelsDivided (closeness_of setting) (pixels_of pixels.now) found.old found.new order.new × (length found.old.ranges ≡ most_entries) }
 {
     found.count = 0;
     let greys = sort_kinds(pixels, order, other);
