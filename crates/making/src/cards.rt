@@ -22,7 +22,9 @@ pub struct Scratch<const N: usize> {
 }
 
 impl<const N: usize> Scratch<N> {
-    pub fn new() -> Self {
+    pub fn new() -> Self
+        ensures { result.found.count ≡ 0 }
+    {
         Scratch {
             order: [0; N],
             other: [0; N],

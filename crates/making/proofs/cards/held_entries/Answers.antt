@@ -1,10 +1,8 @@
-use Rattle.std.proofs.Common.{◌≡◌, ◌∙◌, ℕ, List, length, refl, sym, ap, ap₂}
+use Rattle.std.proofs.Common.{◌∙◌, ℕ, List, ap₂}
 use Rattle.lists.specs.Lists.{padded, numbers}
-use Rattle.palette.specs.declared.Entry.{Entry}
 use Rattle.palette.specs.Cards.{pixels_of, most_entries, no_entry}
 use Rattle.dividing.specs.declared.keeping.CodedRange.{CodedRange}
-use Rattle.dividing.specs.Keeping.{codes_of, sizes_of}
-use Rattle.making.specs.Making.{held_figures, entries_by}
+use Rattle.making.specs.Making.{entries_by}
 use Rattle.making.proofs.Held.{held-figures, held-none}
 use Rattle.making.proofs.cards.held_entries.Goals as goal
 

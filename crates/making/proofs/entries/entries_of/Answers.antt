@@ -11,7 +11,7 @@ use Rattle.dividing.specs.Keeping.{codes_of, sizes_of}
 use Rattle.making.specs.Making.{sums_of, entry_by, entries_by}
 use Rattle.making.proofs.Held.{size_at, code_at}
 use Rattle.making.proofs.Laid.{next-within, part-long, part_in}
-use Rattle.making.proofs.Made.{Made, entries-long, part-few, made_more}
+use Rattle.making.proofs.Made.{entries-long, part-few, made_more}
 use Rattle.making.proofs.entries.entries_of.Goals as goal
 
 pub loop-k-init : goal.loop-k-init

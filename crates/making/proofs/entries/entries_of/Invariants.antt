@@ -1,7 +1,6 @@
 -- The entries passed stand in the first places.
 use Rattle.std.proofs.Math.ListN.{replicate}
 use Rattle.palette.specs.Cards.{most_entries, no_entry}
-use Rattle.dividing.specs.declared.keeping.CodedRange.{CodedRange}
 use Rattle.dividing.specs.Keeping.{codes_of, sizes_of}
 use Rattle.making.proofs.Made.{Made}
 use Rattle.making.proofs.entries.entries_of.Given as goal

@@ -1,4 +1,4 @@
-use Rattle.std.proofs.Common.{◌≡◌, ◌∙◌, ℕ, List, get_or, refl, ap}
+use Rattle.std.proofs.Common.{◌∙◌, ℕ, List, get_or, refl, ap}
 use Rattle.std.proofs.Math.ListN.{set}
 use Rattle.std.proofs.Math.Seq.{take_all}
 use Rattle.making.specs.Making.{labelled}

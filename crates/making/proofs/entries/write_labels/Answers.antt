@@ -6,7 +6,7 @@ use Rattle.dividing.specs.Keeping.{sizes_of}
 use Rattle.making.specs.Making.{labelled, labels_by}
 use Rattle.making.proofs.Held.{size_at}
 use Rattle.making.proofs.Laid.{next-within, part_in}
-use Rattle.making.proofs.Labelled.{LabelsGiven, given-more}
+use Rattle.making.proofs.Labelled.{given-more}
 use Rattle.making.proofs.entries.write_labels.Goals as goal
 
 pub loop-k-init : goal.loop-k-init
