@@ -17,8 +17,13 @@ use Rattle.verdict.specs.Settings.{closeness_of}
 use Rattle.palette.specs.Levels.{Level, bin_count}
 use Rattle.palette.specs.Cards.{pixels_of}
 use Rattle.dividing.specs.Sorted.{code_count, mode_base, AllBelow, tally}
-use Rattle.dividing.specs.Splitting.{AllIn, level_at, bins_of, modes_of, marks_of, mode_of, LevelSorted, RangeSorted, leaves, walked, resting, Split, Divisible, Walkable}
+use Rattle.dividing.specs.Splitting.{AllIn, left_of, level_at, bins_of, modes_of, marks_of, mode_of, LevelSorted, RangeSorted, leaves, walked, resting, Split, Kept, Divisible, Walkable}
+use Rattle.dividing.specs.Keeping.{codes_of, sizes_of}
 use Rattle.dividing.specs.declared.Node.{Node}
+use Rattle.dividing.specs.declared.keeping.Found.{Found}
+use Rattle.dividing.specs.declared.levels.Level as next
+use Rattle.dividing.specs.declared.levels.Level.TheVariants as variant
+use Rattle.std.specs.Prelude.{Option, None, Some}
 use Rattle.dividing.proofs.Tallies.{tally-length}
 use Rattle.dividing.proofs.Scattering.{start-all}
 use Rattle.dividing.proofs.Gathering.{sums-start}
@@ -34,27 +39,35 @@ marks-in e l keys below i k =
     let u : i < length keys = omega (arith, length-map keys (mode_of e l h)) in
     rw (map_at (mode_of e l h) keys i 0 0 u) (mode-below e l h (tally-length (bin_count l) keys) (get_or keys i 0) (below i u))
 
-module _ (node : Node) (bytes order sizes sorted : List ℕ) (n : ℕ) (s : RangeSorted (closeness_of node.setting) (pixels_of bytes) (level_at node.left) order sizes sorted n) where
-  few-modes : n ≤ mode_base
-  few-modes = omega (arith, s.modes, modes-in-base (closeness_of node.setting) (pixels_of bytes) (level_at node.left) (bins_of (pixels_of bytes) (level_at node.left) order))
+-- no more than three levels are left
+pub left-few : (l : Option next.Level) → left_of l ≤ 3
+left-few None = omega arith
+left-few (Some variant.Hue) = omega arith
+left-few (Some variant.Saturation) = omega arith
+left-few (Some variant.Intensity) = omega arith
+
+module _ (node : Node) (bytes order sizes sorted : List ℕ) (n : ℕ) (s : RangeSorted (closeness_of node.setting) (pixels_of bytes) (level_at (left_of node.next)) order sizes sorted n) where
+  pub few-modes : n ≤ mode_base
+  few-modes = omega (arith, s.modes, modes-in-base (closeness_of node.setting) (pixels_of bytes) (level_at (left_of node.next)) (bins_of (pixels_of bytes) (level_at (left_of node.next)) order))
 
   pub modes-fit : n ≤ length sizes
-  modes-fit = omega (arith, few-modes, ap length s.counts, tally-length mode_base (marks_of (closeness_of node.setting) (level_at node.left) (bins_of (pixels_of bytes) (level_at node.left) order)))
+  modes-fit = omega (arith, few-modes, ap length s.counts, tally-length mode_base (marks_of (closeness_of node.setting) (level_at (left_of node.next)) (bins_of (pixels_of bytes) (level_at (left_of node.next)) order)))
 
-  pub split-walkable : (other keys keys' : List ℕ) → Divisible node bytes order other keys → 1 ≤ node.left → ((j : ℕ) → get_or bytes j 0 < 256)
+  pub split-walkable : (other keys keys' : List ℕ) (found : ℕ) (next' : Option next.Level) → Divisible node bytes order other keys found → left_of node.next ≡ left_of next' + 1 → ((j : ℕ) → get_or bytes j 0 < 256)
       → length sorted ≡ length other → length keys' ≡ length keys
-      → Walkable (record { setting = node.setting; left = node.left - 1; code = node.code * mode_base; found = node.found }) (take n sizes) bytes sorted order keys'
+      → Walkable (record { setting = node.setting; next = next'; code = node.code * mode_base }) (take n sizes) bytes sorted order keys' found
   unfolding marks_of
-  split-walkable other keys keys' d some byte other' same =
-      let l = level_at node.left in
+  split-walkable other keys keys' found next' d falls byte other' same =
+      let l = level_at (left_of node.next) in
       let bins = bins_of (pixels_of bytes) l order in
       let ks = marks_of (closeness_of node.setting) l bins in
       let long : length (take n sizes) ≡ n = length-take-le n sizes modes-fit in
       let below : AllBelow ks n = rw s.modes (marks-in (closeness_of node.setting) l bins (keys_below bytes byte l order bins refl)) in
-      let more = room-more node.left some in
-      let times = mul-le-mul_right (mode_base ^ (node.left - 1)) few-modes in
+      let one : left_of node.next - 1 ≡ left_of next' = omega arith in
+      let more : mode_base ^ left_of node.next ≡ mode_base * mode_base ^ left_of next' = rw one at (room-more (left_of node.next) (omega arith)) in
+      let times = mul-le-mul_right (mode_base ^ left_of next') few-modes in
       record {
-        left = omega (arith, d.left);
+        left = omega (arith, left-few node.next);
         setting = d.setting;
         room = rw long (omega (arith, d.room));
         codes = rw long (omega (arith, d.codes, ap (λ (j : ℕ). node.code * j) more));
@@ -138,28 +151,25 @@ pub record Lists : Type 0 where
   pub order : List ℕ
   pub other : List ℕ
   pub keys : List ℕ
-  pub codes : List ℕ
-  pub sizes : List ℕ
+  pub found : Found
 
 -- after m modes, of a walk that began with other lists
-pub record Walks (node : Node) (parts bytes : List ℕ) (l₀ : Lists) (m at : ℕ) (l : Lists) (found' : ℕ) : Type 0 where
+pub record Walks (node : Node) (parts bytes : List ℕ) (l₀ : Lists) (m at : ℕ) (l : Lists) : Type 0 where
   pub within : m ≤ length parts
   pub start : at ≡ total (take m parts)
   pub order_long : length l.order ≡ length l₀.order
   pub other_long : length l.other ≡ length l₀.other
   pub keys_long : length l.keys ≡ length l₀.keys
-  pub codes_long : length l.codes ≡ length l₀.codes
-  pub sizes_long : length l.sizes ≡ length l₀.sizes
   pub ahead : drop at l.order ≡ drop at l₀.order
-  pub walked_so : Split (walked (closeness_of node.setting) (pixels_of bytes) node.left node.code (take m parts) (take at l₀.order)) node.found l₀.codes l₀.sizes l.codes l.sizes
-      (resting node.left (take at l.order) (take at l.other)) found'
+  pub walked_so : Kept (walked (closeness_of node.setting) (pixels_of bytes) (left_of node.next) node.code (take m parts) (take at l₀.order)) l₀.found l.found
+      (resting (left_of node.next) (take at l.order) (take at l.other))
 
 resting-none : (n : ℕ) → resting n [] [] ≡ []
 resting-none zero = refl
 resting-none (suc n) = resting-none n
 
-module _ (node : Node) (parts bytes : List ℕ) (l₀ : Lists) (d : Walkable node parts bytes l₀.order l₀.other l₀.keys) where
-  pub walks-none : Walks node parts bytes l₀ 0 0 l₀ node.found
+module _ (node : Node) (parts bytes : List ℕ) (l₀ : Lists) (d : Walkable node parts bytes l₀.order l₀.other l₀.keys l₀.found.count) where
+  pub walks-none : Walks node parts bytes l₀ 0 0 l₀
   unfolding walked
   walks-none = record {
     within = omega arith;
@@ -167,14 +177,12 @@ module _ (node : Node) (parts bytes : List ℕ) (l₀ : Lists) (d : Walkable nod
     order_long = refl;
     other_long = refl;
     keys_long = refl;
-    codes_long = refl;
-    sizes_long = refl;
     ahead = refl;
-    walked_so = rw (resting-none node.left) (split-none node.found l₀.codes l₀.sizes);
+    walked_so = rw (resting-none (left_of node.next)) (split-none l₀.found.count (codes_of l₀.found.ranges) (sizes_of l₀.found.ranges));
   }
 
-  module _ (m at : ℕ) (l : Lists) (found' : ℕ) (w : Walks node parts bytes l₀ m at l found') where
-    pub walks-all : length parts ≤ m → Split (walked (closeness_of node.setting) (pixels_of bytes) node.left node.code parts l₀.order) node.found l₀.codes l₀.sizes l.codes l.sizes (resting node.left l.order l.other) found'
+  module _ (m at : ℕ) (l : Lists) (w : Walks node parts bytes l₀ m at l) where
+    pub walks-all : length parts ≤ m → Kept (walked (closeness_of node.setting) (pixels_of bytes) (left_of node.next) node.code parts l₀.order) l₀.found l.found (resting (left_of node.next) l.order l.other)
     walks-all end =
         let all = take_all m parts end in
         let over : at ≡ length l₀.order = w.start ∙ ap total all ∙ d.whole in
@@ -193,21 +201,20 @@ module _ (node : Node) (parts bytes : List ℕ) (l₀ : Lists) (d : Walkable nod
           let long = length-take-le (at + get_or parts m 0 - at) (drop at l.order) (omega (arith, walks-fit, w.order_long, length-drop at l.order)) in
           rw (get_or-take (at + get_or parts m 0 - at) (drop at l.order) i 0 (omega arith), w.ahead, get_or-drop at l₀.order i 0) (d.inside (at + i) (omega (arith, walks-fit)))
 
-      pub walks-divisible : Divisible (record { setting = node.setting; left = node.left; code = node.code + m; found = found' }) bytes
-          (take (at + get_or parts m 0 - at) (drop at l.order)) (take (at + get_or parts m 0 - at) (drop at l.other)) l.keys
+      pub walks-divisible : Divisible (record { setting = node.setting; next = node.next; code = node.code + m }) bytes
+          (take (at + get_or parts m 0 - at) (drop at l.order)) (take (at + get_or parts m 0 - at) (drop at l.other)) l.keys l.found.count
       walks-divisible =
           let s = get_or parts m 0 in
           let first = part-long at s l.order (omega (arith, walks-fit, w.order_long)) in
           let second = part-long at s l.other (omega (arith, walks-fit, w.other_long, d.lists)) in
           let some : m + 1 ≤ length parts = omega arith in
           let codes : node.code + m + 1 ≤ node.code + length parts = omega arith in
-          let few = walked-few (closeness_of node.setting) (pixels_of bytes) node.left node.code (take m parts) (take at l₀.order) in
-          let many = ap (λ (j : ℕ). j * mode_base ^ node.left) (length-take-le m parts (omega arith)) in
+          let few = walked-few (closeness_of node.setting) (pixels_of bytes) (left_of node.next) node.code (take m parts) (take at l₀.order) in
+          let many = ap (λ (j : ℕ). j * mode_base ^ (left_of node.next)) (length-take-le m parts (omega arith)) in
           record {
-            left = omega (arith, d.left);
             setting = d.setting;
-            room = omega (arith, d.room, w.walked_so.count, few, many, mul-le-mul_right (mode_base ^ node.left) some);
-            codes = omega (arith, d.codes, mul-le-mul_right (mode_base ^ node.left) codes);
+            room = omega (arith, d.room, w.walked_so.count, few, many, mul-le-mul_right (mode_base ^ (left_of node.next)) some);
+            codes = omega (arith, d.codes, mul-le-mul_right (mode_base ^ (left_of node.next)) codes);
             lists = first ∙ sym second;
             keyed = omega (arith, first, walks-fit, d.keyed, w.keys_long);
             few = omega (arith, first, walks-fit, d.few);
@@ -216,12 +223,12 @@ module _ (node : Node) (parts bytes : List ℕ) (l₀ : Lists) (d : Walkable nod
           }
 
       -- the next mode split, in parts of the two lists
-      pub walks_more : (u v keys codes sizes : List ℕ) (found'' : ℕ) → length u ≡ length (take (at + get_or parts m 0 - at) (drop at l.order))
-          → length v ≡ length (take (at + get_or parts m 0 - at) (drop at l.other)) → length keys ≡ length l.keys → length codes ≡ length l.codes → length sizes ≡ length l.sizes
-          → Split (leaves (closeness_of node.setting) (pixels_of bytes) node.left (node.code + m) (take (at + get_or parts m 0 - at) (drop at l.order))) found' l.codes l.sizes codes sizes (resting node.left u v) found''
+      pub walks_more : (u v keys : List ℕ) (found : Found) → length u ≡ length (take (at + get_or parts m 0 - at) (drop at l.order))
+          → length v ≡ length (take (at + get_or parts m 0 - at) (drop at l.other)) → length keys ≡ length l.keys
+          → Kept (leaves (closeness_of node.setting) (pixels_of bytes) (left_of node.next) (node.code + m) (take (at + get_or parts m 0 - at) (drop at l.order))) l.found found (resting (left_of node.next) u v)
           → Walks node parts bytes l₀ (m + 1) (at + get_or parts m 0)
-          (record { order = put_mid at (at + get_or parts m 0 - at) l.order u; other = put_mid at (at + get_or parts m 0 - at) l.other v; keys = keys; codes = codes; sizes = sizes }) found''
-      walks_more u v keys codes sizes found'' lu lv lk lc ls r =
+          (record { order = put_mid at (at + get_or parts m 0 - at) l.order u; other = put_mid at (at + get_or parts m 0 - at) l.other v; keys = keys; found = found })
+      walks_more u v keys found lu lv lk r =
           let s = get_or parts m 0 in
           let xs = l₀.order in
           let fit : at + s ≤ length l.order = omega (arith, walks-fit, w.order_long) in
@@ -232,23 +239,21 @@ module _ (node : Node) (parts bytes : List ℕ) (l₀ : Lists) (d : Walkable nod
           let long : length (take s (drop at xs)) ≡ s = ap length (sym own) ∙ part-long at s l.order fit in
           let many : length (take m parts) ≡ m = length-take-le m parts (omega arith) in
           let leads : total (take m parts) ≡ length (take at xs) = sym w.start ∙ sym (length-take-le at xs (omega (arith, walks-fit))) in
-          let all : walked (closeness_of node.setting) (pixels_of bytes) node.left node.code (take (m + 1) parts) (take (at + s) xs)
-          ≡ walked (closeness_of node.setting) (pixels_of bytes) node.left node.code (take m parts) (take at xs) ++ leaves (closeness_of node.setting) (pixels_of bytes) node.left (node.code + m) (take s (drop at xs)) =
-          ap₂ (walked (closeness_of node.setting) (pixels_of bytes) node.left node.code) more' (take-add at s xs) ∙ walked-last (closeness_of node.setting) (pixels_of bytes) node.left node.code (take m parts) s (take at xs) (take s (drop at xs)) leads long
-          ∙ ap (λ (j : ℕ). walked (closeness_of node.setting) (pixels_of bytes) node.left node.code (take m parts) (take at xs) ++ leaves (closeness_of node.setting) (pixels_of bytes) node.left (node.code + j) (take s (drop at xs))) many in
-          let rests : resting node.left (take (at + s) (put_mid at (at + s - at) l.order u)) (take (at + s) (put_mid at (at + s - at) l.other v))
-          ≡ resting node.left (take at l.order) (take at l.other) ++ resting node.left u v =
-          ap₂ (resting node.left) (put_front at s l.order u fit lu) (put_front at s l.other v fit' lv) ∙ resting-both node.left (take at l.order) u (take at l.other) v in
+          let all : walked (closeness_of node.setting) (pixels_of bytes) (left_of node.next) node.code (take (m + 1) parts) (take (at + s) xs)
+          ≡ walked (closeness_of node.setting) (pixels_of bytes) (left_of node.next) node.code (take m parts) (take at xs) ++ leaves (closeness_of node.setting) (pixels_of bytes) (left_of node.next) (node.code + m) (take s (drop at xs)) =
+          ap₂ (walked (closeness_of node.setting) (pixels_of bytes) (left_of node.next) node.code) more' (take-add at s xs) ∙ walked-last (closeness_of node.setting) (pixels_of bytes) (left_of node.next) node.code (take m parts) s (take at xs) (take s (drop at xs)) leads long
+          ∙ ap (λ (j : ℕ). walked (closeness_of node.setting) (pixels_of bytes) (left_of node.next) node.code (take m parts) (take at xs) ++ leaves (closeness_of node.setting) (pixels_of bytes) (left_of node.next) (node.code + j) (take s (drop at xs))) many in
+          let rests : resting (left_of node.next) (take (at + s) (put_mid at (at + s - at) l.order u)) (take (at + s) (put_mid at (at + s - at) l.other v))
+          ≡ resting (left_of node.next) (take at l.order) (take at l.other) ++ resting (left_of node.next) u v =
+          ap₂ (resting (left_of node.next)) (put_front at s l.order u fit lu) (put_front at s l.other v fit' lv) ∙ resting-both (left_of node.next) (take at l.order) u (take at l.other) v in
           record {
             within = omega arith;
             start = next_start;
             order_long = same_len_mid at (at + s - at) l.order u lu ∙ w.order_long;
             other_long = same_len_mid at (at + s - at) l.other v lv ∙ w.other_long;
             keys_long = lk ∙ w.keys_long;
-            codes_long = lc ∙ w.codes_long;
-            sizes_long = ls ∙ w.sizes_long;
             ahead = put_rest at s l.order u fit lu ∙ ap (drop s) w.ahead ∙ drop-drop s at xs;
-            walked_so = rw (all, rests) (split-both _ _ node.found found' found'' l₀.codes l.codes codes l₀.sizes l.sizes sizes _ (resting node.left u v) w.walked_so (rw own at r));
+            walked_so = rw (all, rests) (split-both _ _ l₀.found.count l.found.count found.count (codes_of l₀.found.ranges) (codes_of l.found.ranges) (codes_of found.ranges) (sizes_of l₀.found.ranges) (sizes_of l.found.ranges) (sizes_of found.ranges) _ (resting (left_of node.next) u v) w.walked_so (rw own at r));
           }
 
 -- ---- codes stay small

@@ -1,10 +1,11 @@
 -- Splitting a range of pixel numbers level by level. No public promise cites it. Assumes nothing.
+--   left_of                how many levels are left where this one comes next
 --   level_at, levels_left  with so many levels left: the next one; all of them
 --   Leaf                   an entry's code and the numbers of its pixels
 --   leaves, walked         what splitting a range gives, and walking the ranges of its modes
---   Split                  how the code holds it
+--   Split, Kept            how the code holds it
 --   Divisible, Walkable    what splitting a range and walking its modes ask for
-use Rattle.std.specs.Prelude.{ℕ, zero, suc, ◌+◌, ◌*◌, ◌^◌, ◌<◌, ◌≤◌, ◌≡◌, false, length, take, drop, get_or}
+use Rattle.std.specs.Prelude.{ℕ, Option, None, Some, zero, suc, ◌+◌, ◌*◌, ◌^◌, ◌<◌, ◌≤◌, ◌≡◌, false, length, take, drop, get_or}
 use mathlib.Core.List.{List, [], ◌∷◌, ◌++◌, map, flat_map}
 use Rattle.std.proofs.lemmas.List.Edits.{sets}
 use Rattle.lists.specs.Lists.{total, numbers, first_index, filter}
@@ -16,8 +17,18 @@ use Rattle.palette.specs.Levels.{Level, hue, saturation, intensity, bin_count, b
 use Rattle.palette.specs.Cards.{Branch, pixels_of}
 use Rattle.palette.specs.Sound.{pixel_at, most_pixels}
 use Rattle.dividing.specs.Sorted.{tally, marked, sorted_by}
+use Rattle.dividing.specs.Keeping.{codes_of, sizes_of}
 use Rattle.dividing.specs.declared.Node.{Node}
+use Rattle.dividing.specs.declared.keeping.Found.{Found}
+use Rattle.dividing.specs.declared.levels.Level as next
+use Rattle.dividing.specs.declared.levels.Level.TheVariants as variant
 pub use Rattle.dividing.specs.Sorted.{mode_base, code_count}
+
+abbrev pub left_of : Option next.Level → ℕ
+left_of None = 0
+left_of (Some variant.Intensity) = 1
+left_of (Some variant.Saturation) = 2
+left_of (Some variant.Hue) = 3
 
 abbrev pub level_at : ℕ → Level
 level_at zero = intensity
@@ -42,9 +53,13 @@ pub record Leaf : Type 0 where
 abbrev pub AllIn : List ℕ → List ℕ → Type 0
 AllIn xs bytes = (i : ℕ) → i < length xs → 3 * get_or xs i 0 + 2 < length bytes
 
+-- each is the number of such a pixel
+abbrev pub AllSuch : (Pixel → Type 0) → List ℕ → List ℕ → Type 0
+AllSuch P xs bytes = (i : ℕ) → i < length xs → P (pixel_at (pixels_of bytes) (get_or xs i 0))
+
 -- each is a coloured pixel's
 abbrev pub AllColours : List ℕ → List ℕ → Type 0
-AllColours xs bytes = (i : ℕ) → i < length xs → is_grey (pixel_at (pixels_of bytes) (get_or xs i 0)) ≡ false
+AllColours xs bytes = AllSuch (λ p. is_grey p ≡ false) xs bytes
 
 -- the bin of each of the pixels that are given by their numbers
 unfoldable pub bins_of : List Pixel → Level → List ℕ → List ℕ
@@ -97,25 +112,28 @@ pub record Split (ls : List Leaf) (found : ℕ) (codes sizes codes' sizes' sorte
   pub sized : sizes' ≡ sets sizes found (map (λ (l : Leaf). length l.pixels) ls)
   pub order : sorted ≡ flat_map (λ (l : Leaf). l.pixels) ls
 
--- a range can be split at the levels left: however many entries it gives, their count and codes stay small; each number is a pixel's, a coloured one's where
+-- the same, of the entries as they are kept
+abbrev pub Kept : (ls : List Leaf) (before after : Found) (sorted : List ℕ) → Type 0
+Kept ls before after sorted = Split ls before.count (codes_of before.ranges) (sizes_of before.ranges) (codes_of after.ranges) (sizes_of after.ranges) sorted after.count
+
+-- a range can be split at the levels left: however many entries it gives after those found, their count and codes stay small; each number is a pixel's, a coloured one's where
 -- hue comes next; and `other` and `keys` have room for as many
-pub record Divisible (node : Node) (bytes order other keys : List ℕ) : Type 0 where
-  pub left : node.left ≤ 3
+pub record Divisible (node : Node) (bytes order other keys : List ℕ) (found : ℕ) : Type 0 where
   pub setting : node.setting ≤ last_setting
-  pub room : node.found + mode_base ^ node.left ≤ 2 ^ 32
-  pub codes : (node.code + 1) * mode_base ^ node.left ≤ code_count
+  pub room : found + mode_base ^ left_of node.next ≤ 2 ^ 32
+  pub codes : (node.code + 1) * mode_base ^ left_of node.next ≤ code_count
   pub lists : length order ≡ length other
   pub keyed : length order ≤ length keys
   pub few : length order ≤ most_pixels
   pub inside : AllIn order bytes
-  pub coloured : node.left ≡ 3 → AllColours order bytes
+  pub coloured : left_of node.next ≡ 3 → AllColours order bytes
 
 -- the modes of a level, of the sizes `parts`, can be split one after the other
-pub record Walkable (node : Node) (parts bytes order other keys : List ℕ) : Type 0 where
-  pub left : node.left ≤ 2
+pub record Walkable (node : Node) (parts bytes order other keys : List ℕ) (found : ℕ) : Type 0 where
+  pub left : left_of node.next ≤ 2
   pub setting : node.setting ≤ last_setting
-  pub room : node.found + length parts * mode_base ^ node.left ≤ 2 ^ 32
-  pub codes : (node.code + length parts) * mode_base ^ node.left ≤ code_count
+  pub room : found + length parts * mode_base ^ left_of node.next ≤ 2 ^ 32
+  pub codes : (node.code + length parts) * mode_base ^ left_of node.next ≤ code_count
   pub lists : length order ≡ length other
   pub keyed : length order ≤ length keys
   pub few : length order ≤ most_pixels

@@ -7,7 +7,7 @@ ghost use Rattle.palette.specs.Sound.{most_pixels};
 ghost use Rattle.dividing.specs.Sorted.{mode_base};
 ghost use Rattle.dividing.specs.Numbering.{Rises, ModeBefore, ModeAt, PlacesNumbered, BinsNumbered, LineNumbered};
 
-use pixel::{HUES, INTENSITIES, SATURATIONS};
+use pixel::{HUES, INTENSITIES};
 use rings::ring_modes;
 use segmentation::line_separators;
 
@@ -41,16 +41,14 @@ fn number_bins(separators: &[u32], opening: usize, modes: &mut [u8])
 {
     let bins = modes.len();
     let mut m = separators.len() - 1;
-    let mut i = 0;
-    while i < bins {
+    for i in 0..bins {
         m = mode_at(separators, m, i);
         modes[(opening + i) % bins] = m as u8;
-        i += 1;
     }
 }
 
 // The modes of a line of bins: how many there are, and each bin's.
-fn line_modes(h: &[u32], setting: u32, modes: &mut [u8]) -> usize
+pub fn line_modes(h: &[u32], setting: u32, modes: &mut [u8]) -> usize
     requires { (2 ≤ length h.now) × (length h.now ≤ bin_count intensity) × (total h.now ≤ most_pixels) × (setting ≤ last_setting) × (length modes.old ≡ length h.now) }
     ensures { LineNumbered (closeness_of setting) h.now modes.new result }
 {
@@ -60,27 +58,13 @@ fn line_modes(h: &[u32], setting: u32, modes: &mut [u8]) -> usize
     n
 }
 
-pub fn intensity_modes(h: [u32; INTENSITIES], setting: u32, modes: &mut [u8]) -> usize
-    requires { (total h ≤ most_pixels) × (setting ≤ last_setting) × (length modes.old ≡ bin_count intensity) }
-    ensures { BinsNumbered (closeness_of setting) intensity h modes.new result }
-{
-    line_modes(&h, setting, modes)
-}
-
-pub fn saturation_modes(h: [u32; SATURATIONS], setting: u32, modes: &mut [u8]) -> usize
-    requires { (total h ≤ most_pixels) × (setting ≤ last_setting) × (length modes.old ≡ bin_count saturation) }
-    ensures { BinsNumbered (closeness_of setting) saturation h modes.new result }
-{
-    line_modes(&h, setting, modes)
-}
-
 // The hue bins are a ring.
-pub fn hue_modes(h: [u32; HUES], setting: u32, modes: &mut [u8]) -> usize
-    requires { (total h ≤ most_pixels) × (setting ≤ last_setting) × (length modes.old ≡ bin_count hue) }
-    ensures { BinsNumbered (closeness_of setting) hue h modes.new result }
+pub fn hue_modes(h: &[u32], setting: u32, modes: &mut [u8]) -> usize
+    requires { (length h.now ≡ bin_count hue) × (total h.now ≤ most_pixels) × (setting ≤ last_setting) × (length modes.old ≡ bin_count hue) }
+    ensures { BinsNumbered (closeness_of setting) hue h.now modes.new result }
 {
     let mut places = [0u32; HUES];
-    let found = ring_modes(&h, setting, &mut places);
+    let found = ring_modes(h, setting, &mut places);
     let n = found.modes;
     number_bins(&places[..n], found.opening, modes);
     n

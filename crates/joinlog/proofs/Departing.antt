@@ -6,15 +6,14 @@ use mathlib.Core.List.{List, [], ◌∷◌, ◌++◌}
 use mathlib.Core.Option.{Option, none, some}
 use native.Mathlib.Omega.{arith}
 use lib.IntN.{ℤ}
-use lib.ListN.{length, take, drop}
+use lib.ListN.{length, take, drop, take-append-drop}
 use Rattle.lists.specs.Lists.{maybe}
 use Rattle.segmentation.specs.declared.Join.{Join}
 use Rattle.segmentation.specs.Segments.{Segment}
 use Rattle.segmentation.specs.Joining.{Joins}
 use Rattle.segmentation.proofs.Settled.{Shortens}
 use Rattle.joinlog.specs.JoinLog.{joins_made, record_of, numbers_of, record_numbers, log_of, same_numbers, Follows, joins_applied, FollowsSoFar, Leaves}
-use Rattle.joinlog.specs.Records.{starts_with}
-use Rattle.joinlog.proofs.Numbers.{same-logs, starts-same, starts-split, same_from}
+use Rattle.joinlog.proofs.Numbers.{same-logs, logs-equal, same-more}
 
 module _ (w : Joins) where
   -- Departs, of any way of joining and from any segments on
@@ -51,13 +50,17 @@ module _ (w : Joins) where
   other-leaves s zero (x ∷ ss) log l f = absurd (omega arith)
   other-leaves s (suc k) ss log l f = go (w.next ss) refl (other-leaves s k) f
     where
-      record-or-not : (j : Join) → w.next ss ≡ some j → (t : Bool) → starts_with (numbers_of (record_of j)) log ≡ t
+      record-or-not : (j : Join) → w.next ss ≡ some j → (t : Bool) → same_numbers (take record_numbers log) (numbers_of (record_of j)) ≡ t
           → (same_numbers (drop record_numbers log) (log_of (joins_made k w (w.after ss j))) ≡ false → Left (w.after ss j) (drop record_numbers log))
           → same_numbers log (log_of (j ∷ joins_made k w (w.after ss j))) ≡ false → Left ss log
       record-or-not j q true b ih g =
-          after_one ss log j q (starts-split (numbers_of (record_of j)) log b) (ih (sym (same_from (numbers_of (record_of j)) (log_of (joins_made k w (w.after ss j))) log ∙ rw b refl) ∙ g))
+          let numbers = numbers_of (record_of j) in
+          let later = log_of (joins_made k w (w.after ss j)) in
+          let rest = drop record_numbers log in
+          let begins : log ≡ numbers ++ rest = sym (take-append-drop record_numbers log) ∙ ap (λ (xs : List ℤ). xs ++ rest) (logs-equal (take record_numbers log) numbers b) in
+          after_one ss log j q begins (ih (sym (ap (λ (xs : List ℤ). same_numbers xs (numbers ++ later)) begins ∙ same-more numbers rest later) ∙ g))
       record-or-not j q false b ih g =
-          at_once ss log (some j) q (λ e. false≢true (sym b ∙ starts-same (numbers_of (record_of j)) log e))
+          at_once ss log (some j) q (λ e. false≢true (sym b ∙ ap (λ (xs : List ℤ). same_numbers xs (numbers_of (record_of j))) e ∙ same-logs (numbers_of (record_of j))))
 
       go : (o : Option Join) → w.next ss ≡ o
           → ((ts : List Segment) (log : List ℤ) → length ts ≤ k → same_numbers log (log_of (joins_made k w ts)) ≡ false → Left ts log)
@@ -65,7 +68,7 @@ module _ (w : Joins) where
       go none q ih g = none_left ss log q g
       go (some j) q ih g =
           let d = s.fewer ss j q in
-          record-or-not j q (starts_with (numbers_of (record_of j)) log) refl (ih (w.after ss j) (drop record_numbers log) (omega arith)) g
+          record-or-not j q (same_numbers (take record_numbers log) (numbers_of (record_of j))) refl (ih (w.after ss j) (drop record_numbers log) (omega arith)) g
 
   -- a log that can be followed to its end never leaves
   pub never-leaves : (js made : List Join) (rest : List ℤ) (ss : List Segment) → Follows w js ss → FollowsSoFar w made ss

@@ -1,21 +1,17 @@
 -- The log of joins, record by record. Assumes nothing.
-use Prim.Native.Nat.{ℕ, ◌+◌, ◌*◌, ◌≤◌, ◌<◌}
+use Prim.Native.Nat.{ℕ, ◌+◌, ◌*◌, ◌<◌}
 use mathlib.Core.Path.{◌≡◌, refl, sym, ap, ◌∙◌}
-use mathlib.Core.Bool.{Bool, true, false, ◌&&◌}
+use mathlib.Core.Bool.{false}
 use mathlib.Core.List.{List, [], ◌∷◌, ◌++◌, append_assoc, append-nil}
 use native.Mathlib.Omega.{arith}
-use native.Mathlib.Decide.{ℕ_discrete}
-use borrow.Author.Tests.{eq-eqb, ne_eqb}
 use lib.Dec.{eqb}
 use lib.IntN.{ℤ}
-use lib.ListN.{length, take, drop, length-append, length-drop}
-use lib.Seq.{drop-drop}
+use lib.ListN.{length, take, length-append}
 use Rattle.lists.specs.Lists.{over}
 use Rattle.lists.proofs.Buffers.{over_none, over-more}
 use Rattle.segmentation.specs.declared.Join.{Join}
 use Rattle.joinlog.specs.JoinLog.{record_of, numbers_of, record_numbers, log_of, same_numbers}
-use Rattle.joinlog.specs.Records.{starts_with}
-use Rattle.joinlog.proofs.Numbers.{starts-short, starts-room, same_from, same-nothing}
+use Rattle.joinlog.proofs.Numbers.{same-more, same-never, same-nothing}
 
 pub log-length : (js : List Join) → length (log_of js) ≡ record_numbers * length js
 unfolding log_of
@@ -64,37 +60,19 @@ module _ {all : List Join} {before log : List ℤ} {joins : ℕ} where
       let e : w.done ≡ all = sym (append-nil w.done) ∙ w.split in
       (sym w.count ∙ ap length e, w.is ∙ ap (λ (js : List Join). over (log_of js) before) e)
 
--- ---- a log that is followed, from number `at` on
-module _ (log : List ℤ) (at : ℕ) where
-  -- when no join is left, it has to be at its end
-  pub log-ends : at ≤ length log → eqb at (length log) ≡ same_numbers (drop at log) (log_of [])
+-- ---- a log that is followed: `rest` is left of it
+-- when no join is left, it has to be at its end
+pub log-ends : (rest : List ℤ) → same_numbers rest (log_of []) ≡ eqb (length rest) 0
+unfolding log_of
+log-ends rest = same-nothing rest
+
+module _ (j : Join) (js : List Join) (rest : List ℤ) where
+  -- it does not begin with the record of the next join
+  pub log-departs : ((behind : List ℤ) → ¬ (rest ≡ numbers_of (record_of j) ++ behind)) → same_numbers rest (log_of (j ∷ js)) ≡ false
   unfolding log_of
-  log-ends l = go (ℕ_discrete at (length log)) ∙ sym (same-nothing (drop at log))
-    where
-      go : Dec (at ≡ length log) → eqb at (length log) ≡ eqb (length (drop at log)) 0
-      go (yes e) = eq-eqb at (length log) e ∙ sym (eq-eqb (length (drop at log)) 0 (omega (arith, length-drop at log)))
-      go (no d) = ne_eqb at (length log) d ∙ sym (ne_eqb (length (drop at log)) 0 (λ z. d (omega (arith, length-drop at log))))
+  log-departs d = same-never (numbers_of (record_of j)) (log_of js) rest d
 
-  module _ (j : Join) (js : List Join) where
-    next-record : same_numbers (drop at log) (log_of (j ∷ js)) ≡ (starts_with (numbers_of (record_of j)) (drop at log) && same_numbers (drop record_numbers (drop at log)) (log_of js))
-    unfolding log_of
-    next-record = same_from (numbers_of (record_of j)) (log_of js) (drop at log)
-
-    -- no record, where a join comes next
-    pub log-stops : at ≡ length log → same_numbers (drop at log) (log_of (j ∷ js)) ≡ false
-    log-stops e = next-record ∙ ap (λ (t : Bool). t && same_numbers (drop record_numbers (drop at log)) (log_of js))
-        (starts-short (numbers_of (record_of j)) (drop at log) (omega (arith, length-drop at log)))
-
-    -- another record than that of the next join
-    pub log-departs : starts_with (numbers_of (record_of j)) (drop at log) ≡ false → same_numbers (drop at log) (log_of (j ∷ js)) ≡ false
-    log-departs e = next-record ∙ ap (λ (t : Bool). t && same_numbers (drop record_numbers (drop at log)) (log_of js)) e
-
-    module _ (e : starts_with (numbers_of (record_of j)) (drop at log) ≡ true) where
-      -- the record of the next join: it goes on behind it
-      pub log-goes-on : same_numbers (drop (at + record_numbers) log) (log_of js) ≡ same_numbers (drop at log) (log_of (j ∷ js))
-      log-goes-on =
-          ap (λ (xs : List ℤ). same_numbers xs (log_of js)) (sym (drop-drop record_numbers at log))
-          ∙ sym (next-record ∙ ap (λ (t : Bool). t && same_numbers (drop record_numbers (drop at log)) (log_of js)) e)
-
-      pub log-room : at ≤ length log → at + record_numbers ≤ length log
-      log-room l = omega (arith, starts-room (numbers_of (record_of j)) (drop at log) e, length-drop at log)
+  -- it does: it goes on behind it
+  pub log-goes-on : (behind : List ℤ) → rest ≡ numbers_of (record_of j) ++ behind → same_numbers behind (log_of js) ≡ same_numbers rest (log_of (j ∷ js))
+  unfolding log_of
+  log-goes-on behind e = sym (rw e (same-more (numbers_of (record_of j)) behind (log_of js)))

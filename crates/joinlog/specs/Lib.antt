@@ -1,2 +1,1 @@
 pub mod JoinLog
-pub mod Records

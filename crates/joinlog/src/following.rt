@@ -1,5 +1,5 @@
 // A log from anywhere, followed join by join.
-ghost use Rattle.std.specs.Prelude.{◌≡◌, true, not, ◌&&◌, ◌||◌};
+ghost use Rattle.std.specs.Prelude.{◌≡◌, true};
 ghost use Rattle.verdict.specs.Settings.{closeness_of};
 ghost use Rattle.segmentation.specs.Joining.{line_reader, line_joins, join_all};
 ghost use Rattle.segmentation.specs.Held.{segments_held};
@@ -7,64 +7,33 @@ ghost use Rattle.segmentation.specs.Runs.{OnLine};
 ghost use Rattle.joinlog.specs.JoinLog.{joins_made, log_of, same_numbers};
 
 use crate::RECORD_NUMBERS;
-use crate::records::{is_next, record_of};
+use crate::records::record_of;
 use logarithm::SHEET_SIZE;
-use segmentation::{apply, next_on_line};
+use pooling::MOST_BINS;
+use segmentation::Segments;
 
-// Whether a log was followed to its end, and how many segments were left there.
-#[derive(Clone, Copy)]
-pub struct End {
-    pub followed: bool,
-    pub left: usize,
-}
-
-// Whether the joins are at their end or the log is, so that one of them cannot go on.
-fn one_ends(found: bool, ended: bool) -> bool
-    ensures { result ≡ (not found || ended) }
-{
-    !found || ended
-}
-
-// Whether both are. A log that ends although a join was found stops early, and one that goes on although none was is too long.
-fn both_end(found: bool, ended: bool) -> bool
-    ensures { result ≡ (not found && ended) }
-{
-    !found && ended
-}
-
-// Follows a log: each record is held against the join that comes next, which is then made. Log and joins have to end together.
+// Follows a log: each record is held against the join that comes next, which is then made. Log and joins have to end together. Returns whether they did.
 pub fn follow(
+    segments: &mut Segments<MOST_BINS>,
     sheet: &[u32; SHEET_SIZE],
     h: &[u32],
     setting: u32,
-    separators: &mut [u32],
-    peaks: &mut [u32],
-    n: usize,
     log: &[i64],
-) -> End
-    requires { OnLine sheet.now setting h.now separators.old peaks.old n }
-    ensures { (result.followed ≡ same_numbers log.now (log_of (joins_made n (line_joins (closeness_of setting) (line_reader h.now)) (segments_held separators.old peaks.old 0 n))))
-        × (result.followed ≡ true → segments_held separators.new peaks.new 0 result.left
-        ≡ join_all n (line_joins (closeness_of setting) (line_reader h.now)) (segments_held separators.old peaks.old 0 n)) }
+) -> bool
+    requires { OnLine sheet.now setting h.now segments.old.separators segments.old.peaks segments.old.count }
+    ensures { (result ≡ same_numbers log.now (log_of (joins_made segments.old.count (line_joins (closeness_of setting) (line_reader h.now)) (segments_held segments.old.separators segments.old.peaks 0 segments.old.count))))
+        × (result ≡ true → segments_held segments.new.separators segments.new.peaks 0 segments.new.count
+        ≡ join_all segments.old.count (line_joins (closeness_of setting) (line_reader h.now)) (segments_held segments.old.separators segments.old.peaks 0 segments.old.count)) }
 {
-    let mut left = n;
-    let mut at = 0;
-    loop {
-        let next = next_on_line(sheet, h, setting, separators, peaks, left);
-        let found = next.found;
-        let ended = at == log.len();
-        if one_ends(found, ended) {
-            let followed = both_end(found, ended);
-            return End { followed, left };
-        }
-        if !is_next(log, at, record_of(next.join)) {
-            return End {
-                followed: false,
-                left,
-            };
-        }
+    let mut rest = log;
+    while let Some(join) = segments.next_on_line(sheet, h, setting) {
+        let numbers: [i64; RECORD_NUMBERS] = record_of(join).into();
+        let Some(behind) = rest.strip_prefix(&numbers) else {
+            return false;
+        };
         // The record is that of this join, so what is made is what the log says.
-        left = apply(separators, peaks, left, next.join);
-        at += RECORD_NUMBERS;
+        segments.apply(join);
+        rest = behind;
     }
+    rest.is_empty()
 }

@@ -1,7 +1,7 @@
 // The log of a line's joins: written on the way to the modes, and followed again by a replay.
 #![tactic(auto)]
 
-ghost use Rattle.std.specs.Prelude.{◌≡◌, cond, ◌*◌, ◌≤◌, length};
+ghost use Rattle.std.specs.Prelude.{◌≡◌, cond, ◌*◌, ◌≤◌, length, Some, None};
 ghost use Rattle.lists.specs.Lists.{over};
 ghost use Rattle.pooling.specs.Limits.{Small};
 ghost use Rattle.verdict.specs.Settings.{last_setting, closeness_of};
@@ -11,7 +11,7 @@ ghost use Rattle.joinlog.specs.JoinLog.{record_numbers, made_on_line, line_log, 
 use following::follow;
 use logarithm::copied_sheet;
 use pooling::MOST_BINS;
-use segmentation::{copy_first, first_segments};
+use segmentation::Segments;
 use writing::write_joins;
 
 mod following;
@@ -32,13 +32,6 @@ pub struct JoinRecord {
     pub cost: i64,
 }
 
-// Whether a log was followed to its end, and if so, how many separators there are.
-#[derive(Clone, Copy)]
-pub struct Outcome {
-    pub followed: bool,
-    pub separators: u32,
-}
-
 // Writes the log of a line into the first places of a list. Returns how many joins there are.
 pub fn line_log(h: &[u32], setting: u32, log: &mut [i64]) -> u32
     requires small { Small h.now }
@@ -46,38 +39,28 @@ pub fn line_log(h: &[u32], setting: u32, log: &mut [i64]) -> u32
     ensures { (result ≡ length (made_on_line (closeness_of setting) h.now))
         × (log.new ≡ over (line_log (closeness_of setting) h.now) log.old) }
 {
-    let mut separators = [0u32; MOST_BINS];
-    let mut peaks = [0u32; MOST_BINS];
-    let n = first_segments(h, &mut separators, &mut peaks);
+    let mut segments = Segments::<MOST_BINS>::new();
+    segments.first_segments(h);
     let sheet = copied_sheet();
-    let joins = write_joins(&sheet, h, setting, &mut separators, &mut peaks, n, log);
+    let joins = write_joins(&mut segments, &sheet, h, setting, log);
     joins as u32
 }
 
-// Follows a log from the first segments of a line on. If it leads to the modes, writes their separators into the first places of the list; any other log leaves
-// the list as it is.
-pub fn replay(h: &[u32], setting: u32, log: &[i64], list: &mut [u32]) -> Outcome
+// Follows a log from the first segments of a line on. If it leads to the modes, writes their separators into the first places of the list and returns how many
+// they are; any other log leaves the list as it is.
+pub fn replay(h: &[u32], setting: u32, log: &[i64], list: &mut [u32]) -> Option<u32>
     requires small { Small h.now }
     requires in_bounds { (2 ≤ length h.now) × (setting ≤ last_setting) × (length h.now ≤ length list.old) }
-    ensures { (result.followed ≡ same_numbers log.now (line_log (closeness_of setting) h.now))
-        × (result.separators ≡ cond result.followed (length (line_separators (closeness_of setting) h.now)) 0)
-        × (list.new ≡ cond result.followed (over (line_separators (closeness_of setting) h.now) list.old) list.old) }
+    ensures followed { result ≡ cond (same_numbers log.now (line_log (closeness_of setting) h.now)) (Some (length (line_separators (closeness_of setting) h.now))) None }
+    ensures list { list.new ≡ cond (same_numbers log.now (line_log (closeness_of setting) h.now)) (over (line_separators (closeness_of setting) h.now) list.old) list.old }
 {
-    let mut separators = [0u32; MOST_BINS];
-    let mut peaks = [0u32; MOST_BINS];
-    let n = first_segments(h, &mut separators, &mut peaks);
+    let mut segments = Segments::<MOST_BINS>::new();
+    segments.first_segments(h);
     let sheet = copied_sheet();
-    let end = follow(&sheet, h, setting, &mut separators, &mut peaks, n, log);
-    if !end.followed {
-        return Outcome {
-            followed: false,
-            separators: 0,
-        };
+    if !follow(&mut segments, &sheet, h, setting, log) {
+        return None;
     }
-    let count = end.left + 1;
-    copy_first(&separators, count, list);
-    Outcome {
-        followed: true,
-        separators: count as u32,
-    }
+    let count = segments.count + 1;
+    list[..count].copy_from_slice(&segments.separators[..count]);
+    Some(count as u32)
 }

@@ -10,32 +10,26 @@ ghost use Rattle.joinlog.specs.JoinLog.{joins_made, record_numbers, log_of};
 use crate::RECORD_NUMBERS;
 use crate::records::{put_record, record_of};
 use logarithm::SHEET_SIZE;
-use segmentation::{apply, next_on_line};
+use pooling::MOST_BINS;
+use segmentation::Segments;
 
 // Joins the segments of a line until no run is joinable, and writes the record of each join before it is made. Returns how many joins there are.
 pub fn write_joins(
+    segments: &mut Segments<MOST_BINS>,
     sheet: &[u32; SHEET_SIZE],
     h: &[u32],
     setting: u32,
-    separators: &mut [u32],
-    peaks: &mut [u32],
-    n: usize,
     log: &mut [i64],
 ) -> usize
-    requires { OnLine sheet.now setting h.now separators.old peaks.old n × (record_numbers * length h.now ≤ length log.old) }
-    ensures { (result ≡ length (joins_made n (line_joins (closeness_of setting) (line_reader h.now)) (segments_held separators.old peaks.old 0 n)))
-        × (log.new ≡ over (log_of (joins_made n (line_joins (closeness_of setting) (line_reader h.now)) (segments_held separators.old peaks.old 0 n))) log.old) }
+    requires { OnLine sheet.now setting h.now segments.old.separators segments.old.peaks segments.old.count × (record_numbers * length h.now ≤ length log.old) }
+    ensures { (result ≡ length (joins_made segments.old.count (line_joins (closeness_of setting) (line_reader h.now)) (segments_held segments.old.separators segments.old.peaks 0 segments.old.count)))
+        × (log.new ≡ over (log_of (joins_made segments.old.count (line_joins (closeness_of setting) (line_reader h.now)) (segments_held segments.old.separators segments.old.peaks 0 segments.old.count))) log.old) }
 {
-    let mut left = n;
     let mut joins = 0;
-    loop {
-        let next = next_on_line(sheet, h, setting, separators, peaks, left);
-        let found = next.found;
-        if !found {
-            return joins;
-        }
-        put_record(log, RECORD_NUMBERS * joins, record_of(next.join));
-        left = apply(separators, peaks, left, next.join);
+    while let Some(join) = segments.next_on_line(sheet, h, setting) {
+        put_record(log, RECORD_NUMBERS * joins, record_of(join));
+        segments.apply(join);
         joins += 1;
     }
+    joins
 }

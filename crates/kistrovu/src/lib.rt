@@ -37,6 +37,8 @@ ghost use Rattle.kistrovu.specs.Facts.{IfServed, AcceptsOnly, SoundAnswer};
 
 use palette::{Entry, MOST_ENTRIES};
 use pixel::{Measures, Pixel};
+use pooling::{Block, Place};
+use std::array;
 use swatch::PRINTED_MOST;
 use verdict::Verdict;
 
@@ -126,17 +128,20 @@ pub fn kistrovu_fit(histogram: &[u32], rising: bool) -> FitAnswer
     ensures { (result ≡ fit_answer rising histogram.now)
         × IfServed result.number (Pooled (direction rising) histogram.now) }
 {
-    let mut sums = [0u32; 256];
-    let mut lengths = [0u32; 256];
+    let nowhere = Place {
+        start: 0,
+        block: Block { sum: 0, len: 0 },
+    };
+    let mut places = [nowhere; 256];
     let number = grounds::fit_number(histogram);
     if number == 0 {
-        let mut starts = [0u32; 256];
-        pooling::fit_places(histogram, rising, &mut starts, &mut sums, &mut lengths);
+        pooling::fit_places(histogram, rising, &mut places);
     }
+    // C reads two lists of numbers
     FitAnswer {
-        number: number,
-        sums: sums,
-        lengths: lengths,
+        number,
+        sums: array::from_fn(|i| places[i].block.sum),
+        lengths: array::from_fn(|i| places[i].block.len),
     }
 }
 

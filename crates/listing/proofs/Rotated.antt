@@ -12,39 +12,38 @@ use Rattle.lists.proofs.Places.{map_at}
 use Rattle.lists.proofs.Rotations.{mod_below, mod-above, turned-length, turned-at}
 use Rattle.lists.proofs.Firsts.{fails-before, passes-there, first-within}
 use Rattle.lists.proofs.Risings.{rising-up, contains-turned, rising-of}
-use Rattle.listing.specs.declared.Ring.{Ring}
 use Rattle.listing.specs.Numbers.{bin_at_place, past_last, bins_from}
 
 -- what is known of the places where a ring's modes start
-pub record OneTurn (ring : Ring) (places : List ℕ) : Type 0 where
-  pub in_ring : ring.opening < ring.bins
+pub record OneTurn (opening bins : ℕ) (places : List ℕ) : Type 0 where
+  pub in_ring : opening < bins
   pub rises : Rising places
-  pub first_turn : (m : ℕ) → m < length places → get_or places m 0 < ring.bins
+  pub first_turn : (m : ℕ) → m < length places → get_or places m 0 < bins
 
-module _ (ring : Ring) (places : List ℕ) (turn : OneTurn ring places) where
+module _ (opening bins : ℕ) (places : List ℕ) (turn : OneTurn opening bins places) where
   abbrev bin : ℕ → ℕ
-  bin = bin_at_place ring
+  bin = bin_at_place opening bins
 
   abbrev from : ℕ
-  from = first_index (past_last ring) places
+  from = first_index (past_last opening bins) places
 
   abbrev rotated : List ℕ
-  rotated = bins_from ring from places
+  rotated = bins_from opening bins from places
 
   within : from ≤ length places
-  within = first-within (past_last ring) places
+  within = first-within (past_last opening bins) places
 
-  bin-before : (m : ℕ) → m < from → bin (get_or places m 0) ≡ ring.opening + get_or places m 0
+  bin-before : (m : ℕ) → m < from → bin (get_or places m 0) ≡ opening + get_or places m 0
   bin-before m l =
-      let place = ring.opening + get_or places m 0 in
-      mod_below place ring.bins (leb-false ring.bins place (fails-before (past_last ring) places 0 m l))
+      let place = opening + get_or places m 0 in
+      mod_below place bins (leb-false bins place (fails-before (past_last opening bins) places 0 m l))
 
-  bin-after : (m : ℕ) → from ≤ m → m < length places → bin (get_or places m 0) + ring.bins ≡ ring.opening + get_or places m 0
+  bin-after : (m : ℕ) → from ≤ m → m < length places → bin (get_or places m 0) + bins ≡ opening + get_or places m 0
   bin-after m a l =
-      let place = ring.opening + get_or places m 0 in
-      let first = leb-true ring.bins (ring.opening + get_or places from 0) (passes-there (past_last ring) places 0 (omega arith)) in
-      let past : ring.bins ≤ place = omega (arith, rising-up places turn.rises from m a l) in
-      omega (arith, past, mod-above place ring.bins past (omega (arith, turn.first_turn m l, turn.in_ring)))
+      let place = opening + get_or places m 0 in
+      let first = leb-true bins (opening + get_or places from 0) (passes-there (past_last opening bins) places 0 (omega arith)) in
+      let past : bins ≤ place = omega (arith, rising-up places turn.rises from m a l) in
+      omega (arith, past, mod-above place bins past (omega (arith, turn.first_turn m l, turn.in_ring)))
 
   -- ---- which mode's bin comes at number i of the list: of the one from the first past the last bin on, or after the last mode of one before it
   at : (i : ℕ) → i < length places → get_or rotated i 0 ≡ bin (get_or places ((from + i) % length places) 0)
@@ -108,7 +107,7 @@ module _ (ring : Ring) (places : List ℕ) (turn : OneTurn ring places) where
       ∙ ap (λ (xs : List ℕ). contains xs b) (sym (map-append bin rear front))
 
   -- so it has the bins at these places, from the lowest up
-  pub rotated-is : filter (contains (map bin places)) (numbers 0 ring.bins) ≡ rotated
+  pub rotated-is : filter (contains (map bin places)) (numbers 0 bins) ≡ rotated
   rotated-is =
-      rising-of rotated (map bin places) ring.bins rotated-same rotated-rises
-      (λ i l. omega (arith, at i (omega (arith, rotated-length)), mod-lt (ring.opening + get_or places ((from + i) % length places) 0) {m = ring.bins} (omega (arith, turn.in_ring))))
+      rising-of rotated (map bin places) bins rotated-same rotated-rises
+      (λ i l. omega (arith, at i (omega (arith, rotated-length)), mod-lt (opening + get_or places ((from + i) % length places) 0) {m = bins} (omega (arith, turn.in_ring))))

@@ -10,28 +10,19 @@ ghost use Rattle.verdict.specs.Settings.{last_setting, closeness_of};
 ghost use Rattle.listing.specs.Listing.{ring_separators};
 ghost use Rattle.listing.specs.Numbers.{past_last, bins_from};
 
+use ring::Ring;
 use rings::{MOST_RING_BINS, ring_modes};
 
-// How the places of a ring, counted from its opening on, are numbered: place s is bin opening + s, round the ring.
-#[derive(Clone, Copy)]
-pub struct Ring {
-    pub opening: usize,
-    pub bins: usize,
-}
+mod ring;
 
 // The number of the first place that lies past the last bin; if none does, how many places there are.
 fn first_past_last(places: &[u32], ring: Ring) -> usize
-    requires { ring.opening ≤ most_ring_bins }
-    ensures { result ≡ first_index (past_last ring) places.now }
+    ensures { result ≡ first_index (past_last ring.opening ring.bins) places.now }
 {
-    let mut i = 0;
-    while i < places.len() {
-        if ring.bins <= ring.opening + places[i] as usize {
-            return i;
-        }
-        i += 1;
-    }
-    i
+    places
+        .iter()
+        .position(|place| ring.is_past_last(*place))
+        .unwrap_or(places.len())
 }
 
 // Which of n modes is listed at number i: the list goes from mode `from` on, and after the last mode on with the first.
@@ -45,16 +36,11 @@ fn listed_mode(i: usize, from: usize, n: usize) -> usize
 // Writes the bins at these places into the first places of the list: first those from number `from` on, then those before it.
 fn write_numbers(places: &[u32], from: usize, ring: Ring, list: &mut [u32])
     requires from_in_bounds { (from ≤ length places.now) × (length places.now ≤ length list.old) × (length places.now ≤ most_ring_bins) }
-    requires opening_lt_bins { (ring.opening < ring.bins) × (ring.bins ≤ most_ring_bins) }
-    ensures { list.new ≡ over (bins_from ring from places.now) list.old }
+    ensures { list.new ≡ over (bins_from ring.opening ring.bins from places.now) list.old }
 {
     let n = places.len();
-    let mut i = 0;
-    while i < n {
-        let m = listed_mode(i, from, n);
-        let bin = (ring.opening + places[m] as usize) % ring.bins;
-        list[i] = bin as u32;
-        i += 1;
+    for i in 0..n {
+        list[i] = ring.bin_at(places[listed_mode(i, from, n)]);
     }
 }
 
@@ -67,12 +53,12 @@ pub fn ring_separators(h: &[u32], setting: u32, list: &mut [u32]) -> u32
 {
     let mut places = [0u32; MOST_RING_BINS];
     let found = ring_modes(h, setting, &mut places);
-    let n = found.modes;
+    let starts = &places[..found.modes];
     let ring = Ring {
         opening: found.opening,
         bins: h.len(),
     };
-    let from = first_past_last(&places[..n], ring);
-    write_numbers(&places[..n], from, ring, list);
-    n as u32
+    let from = first_past_last(starts, ring);
+    write_numbers(starts, from, ring, list);
+    found.modes as u32
 }

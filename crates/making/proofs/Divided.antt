@@ -22,9 +22,8 @@ use Rattle.palette.specs.Sound.{pixel_at, most_pixels}
 use Rattle.palette.proofs.OneBranch.{branches-filled}
 use Rattle.palette.proofs.OneEntry.{entries-length}
 use Rattle.palette.proofs.Triples.{pixels-bytes, pixels-length}
-use Rattle.dividing.specs.Splitting.{numbers_of, code_of, leaf_of}
+use Rattle.dividing.specs.Splitting.{numbers_of, code_of, leaf_of, Split}
 use Rattle.dividing.specs.Sorted.{mode_base}
-use Rattle.dividing.specs.Kinds.{PixelsDivided}
 use Rattle.dividing.proofs.Bridge.{members-numbered}
 use Rattle.making.specs.declared.CardEntries.{CardEntries}
 use Rattle.making.specs.Making.{range_of, sum_of, sums_of, entry_by, entries_by, FiguresLaid, held_of, fits, card_entries, PixelsLaid}
@@ -60,7 +59,7 @@ pub record FiguresLeft (e : Closeness) (ps : List Pixel) (xs codes sizes : List 
   pub laid : PixelsLaid e ps xs sizes
   pub coded : length (branches e ps) ≤ most_entries → take (length (branches e ps)) codes ≡ map code_of (branches e ps)
 
-pub divided-left : (e : Closeness) (ps : List Pixel) (codes₀ sizes₀ codes sizes xs rest : List ℕ) (n : ℕ) → PixelsDivided e ps codes₀ sizes₀ codes sizes xs n
+pub divided-left : (e : Closeness) (ps : List Pixel) (codes₀ sizes₀ codes sizes xs rest : List ℕ) (n : ℕ) → Split (map (leaf_of ps) (branches e ps)) 0 codes₀ sizes₀ codes sizes xs n
     → length codes₀ ≡ most_entries → length sizes₀ ≡ most_entries → length xs ≡ length ps → FiguresLeft e ps (xs ++ rest) codes sizes n
 divided-left e ps codes₀ sizes₀ codes sizes xs rest n d lc ls long = record {
   count = omega (arith, d.count, length-map (branches e ps) (leaf_of ps), entries-length e ps);

@@ -4,3 +4,4 @@ mod Laid
 mod Made
 mod Labelled
 mod Divided
+pub mod Held

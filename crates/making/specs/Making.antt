@@ -77,6 +77,10 @@ pub record FiguresLaid (bytes xs codes sizes : List ℕ) : Type 0 where
 unfoldable pub held_of : ℕ → ℕ
 held_of n = cond (leb n most_entries) n 0
 
+-- a figure of each of n entries, as far as a card holds them
+abbrev pub held_figures : ℕ → List ℕ → List ℕ
+held_figures n figures = take (held_of n) figures
+
 -- whether a card may hold all entries
 abbrev pub fits : Closeness → List Pixel → Bool
 fits e ps = leb (length (entries e ps)) most_entries

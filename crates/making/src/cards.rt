@@ -1,69 +1,99 @@
 // The card of an image: its entries, and the label of each pixel.
-ghost use Rattle.std.specs.Prelude.{◌≡◌, ◌≤◌, ◌*◌, ◌/◌, length};
+ghost use Rattle.std.specs.Prelude.{◌≡◌, ◌≤◌, ◌<◌, ◌*◌, ◌/◌, MatchOption, length, take};
 ghost use Rattle.verdict.specs.Settings.{last_setting, closeness_of};
-ghost use Rattle.palette.specs.Cards.{pixels_of, most_entries};
+ghost use Rattle.lists.specs.Lists.{padded};
+ghost use Rattle.palette.specs.Cards.{pixels_of, most_entries, no_entry};
 ghost use Rattle.palette.specs.Sound.{most_pixels};
-ghost use Rattle.making.specs.Making.{held_of, PixelsLaid, card_entries, labels_left};
+ghost use Rattle.dividing.specs.Keeping.{codes_of, sizes_of};
+ghost use Rattle.making.specs.Making.{FiguresLaid, PixelsLaid, held_figures, entries_by, card_entries, labels_left};
 
 use crate::CardEntries;
 use crate::entries::{entries_of, write_labels};
-use dividing::divide_pixels;
-use palette::{MOST_ENTRIES, MOST_PIXELS};
+use dividing::{CodedRange, Found, divide_pixels};
+use palette::{Entry, MOST_ENTRIES, MOST_PIXELS, no_entries};
 
-// How many entries a card holds: none where they are too many, so that no entry is made and no label written.
-fn held(total: usize) -> usize
-    ensures { result ≡ held_of total }
-{
-    if MOST_ENTRIES < total { 0 } else { total }
+// What the entries of an image of at most N pixels are made in: five bytes for each pixel, and the entries that are found. The pixels' numbers are left in `order`, entry by entry.
+#[derive(Drop)]
+pub struct Scratch<const N: usize> {
+    pub order: [u16; N],
+    pub other: [u16; N],
+    pub keys: [u8; N],
+    pub found: Found,
 }
 
-// The entries, in lent scratch with a place or more for each pixel. The pixels' numbers are left in `order`, entry by entry, and each entry's count in `sizes` where a card may hold all entries.
-pub fn make_entries(
-    pixels: &[u8],
-    setting: u32,
-    order: &mut [u16],
-    other: &mut [u16],
-    keys: &mut [u8],
-    codes: &mut [u32],
-    sizes: &mut [u32],
-) -> CardEntries
-    requires pixels_len { (length pixels.now ≡ 3 * (length pixels.now / 3)) × (length pixels.now ≤ 3 * most_pixels) × (setting ≤ last_setting) }
-    requires pixels_in_bounds { (length pixels.now / 3 ≤ length order.old) × (length pixels.now / 3 ≤ length other.old) × (length pixels.now / 3 ≤ length keys.old)
-        × (length codes.old ≡ most_entries) × (length sizes.old ≡ most_entries) }
-    ensures { (result ≡ card_entries (closeness_of setting) (pixels_of pixels.now))
-        × PixelsLaid (closeness_of setting) (pixels_of pixels.now) order.new sizes.new }
-{
-    let n = pixels.len() / 3;
-    let total = divide_pixels(
-        pixels,
-        setting,
-        &mut order[..n],
-        &mut other[..n],
-        &mut keys[..n],
-        codes,
-        sizes,
-    );
-    let kept = held(total);
-    CardEntries {
-        total: total as u32,
-        entries: entries_of(pixels, order, &codes[..kept], &sizes[..kept]),
+impl<const N: usize> Scratch<N> {
+    pub fn new() -> Self
+        ensures { result.found.count ≡ 0 }
+    {
+        Scratch {
+            order: [0; N],
+            other: [0; N],
+            keys: [0; N],
+            found: Found::new(),
+        }
     }
 }
 
-// The entries and the labels, in scratch that is made here: five bytes for each pixel, a place in two lists for each entry. With too many entries the labels stay as lent.
+// The entries that a card holds, unless they are too many.
+fn held(found: &Found) -> Option<&[CodedRange]>
+    ensures { MatchOption result (most_entries < found.now.count)
+        (λ ranges. (found.now.count ≤ most_entries) × (ranges.now ≡ take found.now.count found.now.ranges)) }
+{
+    if MOST_ENTRIES < found.count {
+        return None;
+    }
+    Some(&found.ranges[..found.count])
+}
+
+// Those entries, made of the numbers of their pixels: none where they are too many.
+fn held_entries(pixels: &[u8], numbers: &[u16], found: &Found) -> [Entry; MOST_ENTRIES]
+    requires { FiguresLaid pixels.now numbers.now (held_figures found.now.count (codes_of found.now.ranges)) (held_figures found.now.count (sizes_of found.now.ranges)) }
+    ensures { result ≡ padded most_entries no_entry
+        (entries_by (held_figures found.now.count (codes_of found.now.ranges)) (held_figures found.now.count (sizes_of found.now.ranges)) numbers.now (pixels_of pixels.now)) }
+{
+    match held(found) {
+        Some(ranges) => entries_of(pixels, numbers, ranges),
+        None => no_entries(),
+    }
+}
+
+// The entries, in scratch with a place or more for each pixel. With too many no entry is made.
+pub fn make_entries<const N: usize>(
+    pixels: &[u8],
+    setting: u32,
+    scratch: &mut Scratch<N>,
+) -> CardEntries
+    requires pixels_len { (length pixels.now ≡ 3 * (length pixels.now / 3)) × (length pixels.now ≤ 3 * most_pixels) × (setting ≤ last_setting) }
+    requires pixels_in_bounds { length pixels.now / 3 ≤ N }
+    ensures { (result ≡ card_entries (closeness_of setting) (pixels_of pixels.now))
+        × PixelsLaid (closeness_of setting) (pixels_of pixels.now) scratch.new.order (sizes_of scratch.new.found.ranges)
+        × (result.total ≡ scratch.new.found.count) }
+{
+    let n = pixels.len() / 3;
+    divide_pixels(
+        pixels,
+        setting,
+        &mut scratch.order[..n],
+        &mut scratch.other[..n],
+        &mut scratch.keys[..n],
+        &mut scratch.found,
+    );
+    CardEntries {
+        total: scratch.found.count as u32,
+        entries: held_entries(pixels, &scratch.order, &scratch.found),
+    }
+}
+
+// The entries and the labels, in scratch that is made here. With too many entries the labels stay as lent.
 pub fn make_card(pixels: &[u8], setting: u32, labels: &mut [u16]) -> CardEntries
     requires { (length pixels.now ≡ 3 * length labels.old) × (length labels.old ≤ most_pixels) × (setting ≤ last_setting) }
     ensures { (result ≡ card_entries (closeness_of setting) (pixels_of pixels.now))
         × (labels.new ≡ labels_left (closeness_of setting) (pixels_of pixels.now) labels.old) }
 {
-    let mut order = [0u16; MOST_PIXELS];
-    let mut other = [0u16; MOST_PIXELS];
-    let mut keys = [0u8; MOST_PIXELS];
-    let mut codes = [0u32; MOST_ENTRIES];
-    let mut sizes = [0u32; MOST_ENTRIES];
-    let made = make_entries(
-        pixels, setting, &mut order, &mut other, &mut keys, &mut codes, &mut sizes,
-    );
-    write_labels(&order, &sizes[..held(made.total as usize)], labels);
+    let mut scratch = Scratch::<MOST_PIXELS>::new();
+    let made = make_entries(pixels, setting, &mut scratch);
+    if let Some(ranges) = held(&scratch.found) {
+        write_labels(&scratch.order, ranges, labels);
+    }
     made
 }

@@ -6,7 +6,7 @@ use palette::{Entry, MOST_ENTRIES};
 mod cards;
 mod entries;
 
-pub use cards::{make_card, make_entries};
+pub use cards::{Scratch, make_card, make_entries};
 
 // How many entries a card has as defined, and the entries where a card may hold so many; the places past them are zero.
 #[derive(Clone, Copy)]
@@ -16,7 +16,7 @@ pub struct CardEntries {
 }
 
 // What the pixels of an entry come to, channel by channel.
-#[derive(Clone, Copy)]
+#[derive(Clone, Copy, Default)]
 pub struct Sums {
     pub red: u32,
     pub green: u32,

@@ -13,7 +13,7 @@ pub const MOST_PIXELS: usize = 65536;
 
 // An entry of a card: kind 0 for greys and 1 for colours, its three mode numbers, the mean colour of its pixels, and their count.
 #[repr(C)]
-#[derive(Clone, Copy)]
+#[derive(Clone, Copy, Default)]
 pub struct Entry {
     pub kind: u8,
     pub hue: u8,
@@ -28,16 +28,7 @@ pub struct Entry {
 pub fn no_entry() -> Entry
     ensures { result ≡ no_entry }
 {
-    Entry {
-        kind: 0,
-        hue: 0,
-        saturation: 0,
-        intensity: 0,
-        red: 0,
-        green: 0,
-        blue: 0,
-        count: 0,
-    }
+    Entry::default()
 }
 
 // The places of a card without entries.

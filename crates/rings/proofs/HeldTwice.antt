@@ -3,8 +3,8 @@ use Prim.Native.Nat.{ℕ, zero, suc, ◌+◌, ◌-◌, ◌≤◌, ◌<◌}
 use mathlib.Core.Path.{◌≡◌, refl, sym, ap, ◌∙◌}
 use mathlib.Core.List.{List}
 use native.Mathlib.Omega.{arith}
-use lib.ListN.{length, take, drop, get_or, set, length-drop}
-use lib.Seq.{length-take-le, get_or-take, get_or-drop, paste, ext_get_or, get_or-set_same, get_or-set_other}
+use lib.ListN.{length, take, drop, get_or, length-drop}
+use lib.Seq.{length-take-le, get_or-take, get_or-drop, paste, ext_get_or}
 use Rattle.lists.proofs.Cases.{by_order}
 use Rattle.lists.proofs.Shifts.{shift-at}
 use Rattle.segmentation.specs.Segments.{Segment, segment_at}
@@ -91,24 +91,6 @@ held-twice s p s' p' n bins rs rp turn =
         let z : suc m ≡ 1 + n + d = omega arith in
         let w : 1 + d ≡ suc d = omega arith in
         ap (λ (x : ℕ). get_or s' x 0) z ∙ rs.again d h ∙ ap (λ (x : ℕ). get_or s x 0 + bins) w
-
--- ---- one member more that stands again
-module _ (a₀ a : List ℕ) (from n by k : ℕ) (room : from + n + n ≤ length a) (here : k < n)
-    (kept : (m : ℕ) → m < from + n → get_or a m 0 ≡ get_or a₀ m 0)
-    (again : (m : ℕ) → m < k → get_or a (from + n + m) 0 ≡ get_or a₀ (from + m) 0 + by) where
-  abbrev next : List ℕ
-  next = set a (from + n + k) (get_or a (from + k) 0 + by)
-
-  pub repeat-kept : (m : ℕ) → m < from + n → get_or next m 0 ≡ get_or a₀ m 0
-  repeat-kept m l = get_or-set_other a (from + n + k) m (get_or a (from + k) 0 + by) 0 (λ e. omega arith) ∙ kept m l
-
-  pub repeat-again : (m : ℕ) → m < k + 1 → get_or next (from + n + m) 0 ≡ get_or a₀ (from + m) 0 + by
-  repeat-again m l =
-      by_order m k
-      (λ i. get_or-set_other a (from + n + k) (from + n + m) (get_or a (from + k) 0 + by) 0 (λ e. omega arith) ∙ again m i)
-      (λ i.
-      let z : m ≡ k = omega arith in
-      rw z (get_or-set_same a (from + n + k) (get_or a (from + k) 0 + by) 0 (omega arith) ∙ ap (λ (x : ℕ). x + by) (kept (from + k) (omega arith))))
 
 -- ---- a run joined in the turn that was moved to the front
 -- a join goes by the run and by which peak is kept, not by the cost

@@ -1,1 +1,2 @@
 mod HeldTwice
+mod Copies

@@ -8,7 +8,7 @@ ghost use Rattle.verdict.specs.Settings.{last_setting, closeness_of};
 ghost use Rattle.segmentation.specs.Ring.{opening, ring_modes};
 
 use pooling::MOST_BINS;
-use segmentation::copy_first;
+use segmentation::Segments;
 use turns::{lowest_bin, ring, write_turns};
 
 mod rounds;
@@ -36,15 +36,11 @@ pub fn ring_modes(h: &[u32], setting: u32, places: &mut [u32]) -> Opened
         × (places.new ≡ over (map (λ s. s.start) (ring_modes (closeness_of setting) h.now)) places.old) }
 {
     let mut round = [0u32; TWO_TURNS];
-    let mut separators = [0u32; HELD_TWICE];
-    let mut peaks = [0u32; HELD_TWICE];
+    let mut modes = Segments::<HELD_TWICE>::new();
     let opening = lowest_bin(h);
-    let turns = h.len() + h.len();
     write_turns(h, opening, &mut round);
-    let n = ring(h, &round[..turns], setting, &mut separators, &mut peaks);
-    copy_first(&separators, n, places);
-    Opened {
-        opening: opening,
-        modes: n,
-    }
+    ring(h, &round[..h.len() + h.len()], setting, &mut modes);
+    let n = modes.count;
+    places[..n].copy_from_slice(&modes.separators[..n]);
+    Opened { opening, modes: n }
 }

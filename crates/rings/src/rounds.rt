@@ -3,117 +3,85 @@ ghost use Rattle.std.specs.Prelude.{◌≡◌, ◌+◌, ◌-◌, ◌≤◌, ◌<
 ghost use Rattle.pooling.specs.Limits.{most_bins};
 ghost use Rattle.verdict.specs.Settings.{closeness_of};
 ghost use Rattle.segmentation.specs.Joining.{line_reader, join_all};
-ghost use Rattle.segmentation.specs.Around.{join_twice, ring_joins};
-ghost use Rattle.segmentation.specs.Held.{segments_held};
+ghost use Rattle.segmentation.specs.Around.{twice, next_round, join_twice, ring_joins};
+ghost use Rattle.segmentation.specs.Held.{segments_held, join_found};
 ghost use Rattle.segmentation.specs.Runs.{NoneAmong};
 ghost use Rattle.rings.specs.Twice.{RingHeld, EachTo, Repeated};
 
+use crate::HELD_TWICE;
 use logarithm::SHEET_SIZE;
-use segmentation::{Join, Search, apply, next_join, shift};
+use segmentation::{Join, Search, Segments};
 
 // Writes the n members from place `from` on again behind them, `by` more each.
 fn repeat(a: &mut [u32], from: usize, n: usize, by: usize)
     requires { (from + n + n ≤ length a.old) × (by ≤ most_bins) × EachTo (most_bins + most_bins) a.old from n }
     ensures { Repeated a.old a.new from n by }
 {
-    let mut k = 0;
-    while k < n {
-        let later = a[from + k] + by as u32;
-        a[from + n + k] = later;
-        k += 1;
+    for k in 0..n {
+        a[from + n + k] = a[from + k] + by as u32;
     }
 }
 
-// How many of the first of n modes a run goes on to, past the last one.
-fn past_last(first: usize, len: usize, n: usize) -> usize
-    requires { (first < n) × (len ≤ n) × (n ≤ most_bins) }
-    ensures { result ≡ first + len - n }
-{
-    if n < first + len {
-        return first + len - n;
-    }
-    0
-}
-
-// Joins a run of the n modes, which are held twice over. Returns how many there are then.
+// Joins a run of the modes, which are held twice over.
 // If the run goes past the last mode, the turn that begins behind it is first moved to the front.
-fn apply_round(separators: &mut [u32], peaks: &mut [u32], n: usize, j: Join) -> usize
-    requires { (2 ≤ j.len) × (j.len ≤ n) × (j.first < n) × (n ≤ most_bins) × (n + n < length separators.old) × (n + n ≤ length peaks.old) }
-    ensures { (segments_held separators.new peaks.new 0 result ≡ join_twice (segments_held separators.old peaks.old 0 (n + n)) n j)
-        × (result ≡ n - (j.len - 1)) }
+fn apply_round(modes: &mut Segments<HELD_TWICE>, j: Join)
+    requires { (2 ≤ j.len) × (j.len ≤ modes.old.count) × (j.first < modes.old.count) × (modes.old.count < most_bins) }
+    ensures { (segments_held modes.new.separators modes.new.peaks 0 modes.new.count ≡ join_twice (segments_held modes.old.separators modes.old.peaks 0 (modes.old.count + modes.old.count)) modes.old.count j)
+        × (modes.new.count ≡ modes.old.count - (j.len - 1)) }
 {
-    let past = past_last(j.first, j.len, n);
-    shift(separators, 0, past, past + n + 1);
-    shift(peaks, 0, past, past + n);
-    let first = j.first - past;
-    let moved = Join {
-        first: first,
-        len: j.len,
-        rise: j.rise,
-        cost: j.cost,
-    };
-    apply(separators, peaks, n, moved)
+    let n = modes.count;
+    let past = (j.first + j.len).saturating_sub(n);
+    modes.separators.copy_within(past..past + n + 1, 0);
+    modes.peaks.copy_within(past..past + n, 0);
+    modes.apply(Join {
+        first: j.first - past,
+        ..j
+    });
 }
 
-// Makes the next join anywhere round the ring, if there is one. Returns how many modes there are then: as many as before only if there is none.
-// No run of the first `known` modes is joinable.
-fn join_once(
+// The join that comes next anywhere round the ring, if there is one. Leaves the modes as they are, and held twice over. With `apply_round`, which makes the join,
+// this is one step of joining. No run of the first `known` modes is joinable.
+fn next_round(
+    modes: &mut Segments<HELD_TWICE>,
     sheet: &[u32; SHEET_SIZE],
     round: &[u32],
     setting: u32,
-    separators: &mut [u32],
-    peaks: &mut [u32],
-    n: usize,
-    known: usize,
     bins: usize,
-) -> usize
-    requires ring_held { RingHeld sheet.now setting round.now separators.old peaks.old n bins }
-    requires none_among { NoneAmong (closeness_of setting) (line_reader round.now) (segments_held separators.old peaks.old 0 n) known × (known ≤ n) }
-    ensures { segments_held separators.new peaks.new 0 result
-        ≡ join_all 1 (ring_joins (closeness_of setting) (line_reader round.now) bins) (segments_held separators.old peaks.old 0 n) }
+    known: usize,
+) -> Option<Join>
+    requires ring_held { RingHeld sheet.now setting round.now modes.old.separators modes.old.peaks modes.old.count bins }
+    requires none_among { NoneAmong (closeness_of setting) (line_reader round.now) (segments_held modes.old.separators modes.old.peaks 0 modes.old.count) known × (known ≤ modes.old.count) }
+    ensures next { join_found result ≡ next_round (closeness_of setting) (line_reader round.now) bins (segments_held modes.old.separators modes.old.peaks 0 modes.old.count) }
+    ensures held { (modes.new.count ≡ modes.old.count)
+        × (segments_held modes.new.separators modes.new.peaks 0 modes.old.count ≡ segments_held modes.old.separators modes.old.peaks 0 modes.old.count) }
+    ensures again { segments_held modes.new.separators modes.new.peaks 0 (modes.old.count + modes.old.count) ≡ twice bins (segments_held modes.old.separators modes.old.peaks 0 modes.old.count) }
 {
-    repeat(separators, 1, n, bins);
-    repeat(peaks, 0, n, bins);
-    let all = Search {
-        count: n,
-        round: true,
-        known: known,
-    };
-    let next = next_join(sheet, round, setting, separators, peaks, all);
-    if !next.found {
-        return n;
-    }
-    apply_round(separators, peaks, n, next.join)
+    let n = modes.count;
+    repeat(&mut modes.separators, 1, n, bins);
+    repeat(&mut modes.peaks, 0, n, bins);
+    let all = Search { round: true, known };
+    modes.next_join(sheet, round, setting, all)
 }
 
-// Joins the modes of a finished line until no run is joinable anywhere round its ring. Returns how many there are then.
+// Joins the modes of a finished line until no run is joinable anywhere round its ring.
 // None of the line's own runs is joinable, so the first run that is goes past the opening, and its mode becomes the last. All others are modes of the line still, and no run
 // of them alone is joinable. So each join has the last mode in it, and only runs that have it are looked at.
 pub fn join_round(
+    modes: &mut Segments<HELD_TWICE>,
     sheet: &[u32; SHEET_SIZE],
     round: &[u32],
     setting: u32,
-    separators: &mut [u32],
-    peaks: &mut [u32],
-    n: usize,
     bins: usize,
-) -> usize
-    requires ring_held { RingHeld sheet.now setting round.now separators.old peaks.old n bins }
-    requires none_among { NoneAmong (closeness_of setting) (line_reader round.now) (segments_held separators.old peaks.old 0 n) n }
-    ensures { (segments_held separators.new peaks.new 0 result
-        ≡ join_all n (ring_joins (closeness_of setting) (line_reader round.now) bins) (segments_held separators.old peaks.old 0 n))
-        × (result ≤ n) }
+)
+    requires ring_held { RingHeld sheet.now setting round.now modes.old.separators modes.old.peaks modes.old.count bins }
+    requires none_among { NoneAmong (closeness_of setting) (line_reader round.now) (segments_held modes.old.separators modes.old.peaks 0 modes.old.count) modes.old.count }
+    ensures { (segments_held modes.new.separators modes.new.peaks 0 modes.new.count
+        ≡ join_all modes.old.count (ring_joins (closeness_of setting) (line_reader round.now) bins) (segments_held modes.old.separators modes.old.peaks 0 modes.old.count))
+        × (modes.new.count ≤ modes.old.count) }
 {
-    let mut left = n;
-    let mut known = n;
-    loop {
-        let before = left;
-        left = join_once(
-            sheet, round, setting, separators, peaks, before, known, bins,
-        );
-        if left == before {
-            return left;
-        }
-        known = left - 1;
+    let mut known = modes.count;
+    while let Some(join) = next_round(modes, sheet, round, setting, bins, known) {
+        apply_round(modes, join);
+        known = modes.count - 1;
     }
 }

@@ -1,14 +1,15 @@
 // The ring: its opening, its turns from there on, and its modes.
-ghost use Rattle.std.specs.Prelude.{◌≡◌, ◌+◌, ◌*◌, ◌≤◌, length};
+ghost use Rattle.std.specs.Prelude.{◌≡◌, ◌+◌, ◌≤◌, length};
 ghost use Rattle.lists.specs.Lists.{total, over};
-ghost use Rattle.pooling.specs.Limits.{most_ring_bins, most_ring_counts, most_bins};
+ghost use Rattle.pooling.specs.Limits.{most_ring_bins, most_ring_counts};
 ghost use Rattle.verdict.specs.Settings.{last_setting, closeness_of};
 ghost use Rattle.segmentation.specs.Held.{segments_held};
 ghost use Rattle.segmentation.specs.Ring.{opening, two_turns, ring_modes};
 
+use crate::HELD_TWICE;
 use crate::rounds::join_round;
 use logarithm::copied_sheet;
-use segmentation::{first_segments, join_all};
+use segmentation::Segments;
 
 // The lowest bin; of several, the one with the lowest number.
 pub fn lowest_bin(h: &[u32]) -> usize
@@ -16,12 +17,10 @@ pub fn lowest_bin(h: &[u32]) -> usize
     ensures { result ≡ opening h.now }
 {
     let mut lowest = 0;
-    let mut i = 1;
-    while i < h.len() {
+    for i in 1..h.len() {
         if h[i] < h[lowest] {
             lowest = i;
         }
-        i += 1;
     }
     lowest
 }
@@ -33,33 +32,26 @@ pub fn write_turns(h: &[u32], first: usize, round: &mut [u32])
     ensures { round.new ≡ over (two_turns h.now) round.old }
 {
     let bins = h.len();
-    let mut i = 0;
-    while i < bins + bins {
-        round[i] = h[(first + i) % bins];
-        i += 1;
-    }
+    let turn = &mut round[..bins];
+    turn.copy_from_slice(h);
+    turn.rotate_left(first);
+    round.copy_within(..bins, bins);
 }
 
-// Writes the modes of the ring h, of which `round` has two turns from the opening on. Returns how many there are.
+// Finds the modes of the ring h, of which `round` has two turns from the opening on.
 // The opened line, the first turn with the bin of the opening again at its end, is finished first. A single segment has nothing to join, and needs no sheet.
-pub fn ring(
-    h: &[u32],
-    round: &[u32],
-    setting: u32,
-    separators: &mut [u32],
-    peaks: &mut [u32],
-) -> usize
+pub fn ring(h: &[u32], round: &[u32], setting: u32, modes: &mut Segments<HELD_TWICE>)
     requires in_bounds { (2 ≤ length h.now) × (length h.now ≤ most_ring_bins) × (total h.now ≤ most_ring_counts) × (round.now ≡ two_turns h.now) }
-    requires setting_le_last_setting { (setting ≤ last_setting) × (2 * most_bins ≤ length separators.old) × (2 * most_bins ≤ length peaks.old) }
-    ensures { segments_held separators.new peaks.new 0 result ≡ ring_modes (closeness_of setting) h.now }
+    requires setting_le_last_setting { setting ≤ last_setting }
+    ensures { segments_held modes.new.separators modes.new.peaks 0 modes.new.count ≡ ring_modes (closeness_of setting) h.now }
 {
     let bins = h.len();
     let end = bins + 1;
-    let n = first_segments(&round[..end], separators, peaks);
-    if n < 2 {
-        return n;
+    modes.first_segments(&round[..end]);
+    if modes.count < 2 {
+        return;
     }
     let sheet = copied_sheet();
-    let left = join_all(&sheet, &round[..end], setting, separators, peaks, n);
-    join_round(&sheet, round, setting, separators, peaks, left, bins)
+    modes.join_all(&sheet, &round[..end], setting);
+    join_round(modes, &sheet, round, setting, bins);
 }

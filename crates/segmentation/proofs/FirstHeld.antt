@@ -4,12 +4,10 @@ use mathlib.Core.Path.{◌≡◌, refl, sym, ap, ◌∙◌}
 use mathlib.Core.Bool.{cond}
 use mathlib.Core.List.{List, [], ◌∷◌}
 use native.Mathlib.Omega.{arith}
-use native.Mathlib.Numerals.{add-one}
 use lib.Dec.{ltb}
-use lib.ListN.{length, take, drop, get_or, set}
-use lib.Seq.{get_or-take, get_or-set_same, get_or-set_other, length-take-le}
+use lib.ListN.{length, take, drop, get_or}
+use lib.Seq.{get_or-take, length-take-le}
 use borrow.Author.Tests.{lt-ltb, le-ltb}
-use Rattle.lists.proofs.Cases.{last_or}
 use Rattle.segmentation.specs.Segments.{bin_at, first_highest, first_separators, segments_from, first_segments}
 use Rattle.segmentation.specs.Held.{segments_held}
 use Rattle.segmentation.specs.Walk.{InLine, PeaksHeld}
@@ -34,14 +32,6 @@ module _ (h : List ℕ) (s i m : ℕ) (l : s < i) (e : m ≡ first_highest h s (
 
   pub highest-kept : bin_at h i ≤ bin_at h m → m ≡ first_highest h s (i + 1 - 1 - s)
   highest-kept d = rw (highest-more, le-ltb (bin_at h m) (bin_at h i) d)
-
--- ---- the peaks, one segment more at a time
-pub peaks-more : (h separators peaks : List ℕ) (m v : ℕ) → m < length peaks → v ≡ peak_of h (get_or separators m 0) (get_or separators (m + 1) 0)
-    → PeaksHeld h separators peaks m → PeaksHeld h separators (set peaks m v) (m + 1)
-peaks-more h separators peaks m v l e p k b =
-    last_or (suc k) m (omega arith)
-    (λ c. get_or-set_other peaks m k v 0 (λ z. omega arith) ∙ p k c)
-    (λ c. let z : k ≡ m = omega arith in rw z (get_or-set_same peaks m v 0 l ∙ rw add-one at e))
 
 -- ---- separators and peaks are the segments
 held-from : (h separators peaks : List ℕ) (i s : ℕ) (ts : List ℕ) → ((m : ℕ) → m ≤ length ts → get_or separators (i + m) 0 ≡ get_or (s ∷ ts) m 0)

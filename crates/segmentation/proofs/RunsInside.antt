@@ -56,9 +56,6 @@ part_small i j h l s = record {
   counts = omega (arith, total-part-le i j h (omega arith), s.counts);
 }
 
-pub part-some : (i j : ℕ) (h : List ℕ) → i ≤ j → j < length h → 1 ≤ length (part i j h)
-part-some i j h l k = omega (arith, part_length i j h l k)
-
 -- the last separator of a cut line is its last bin
 pub line-end : {bins : ℕ} {ss : List Segment} → Cut bins ss → (m : ℕ) → m < length ss → (segment_at ss m).end < bins
 line-end {bins} {ss} c m l = omega (arith, c.to_last_bin, chain-ends ss c.chain m (length ss - 1) (omega arith) (omega arith))

@@ -1,7 +1,7 @@
 -- Laws of the walk along a line: the separators found, plus the bin where the counts last fell if they rise next, are those of the bins passed. Assumes nothing.
 use Prim.Native.Nat.{ℕ, zero, suc, ◌+◌, ◌-◌, ◌≤◌, ◌<◌}
 use mathlib.Core.Path.{◌≡◌, refl, sym, ap, ◌∙◌}
-use mathlib.Core.Bool.{Bool, true, false, cond, and-false}
+use mathlib.Core.Bool.{Bool, true, false, cond}
 use mathlib.Core.List.{List, [], ◌∷◌, ◌++◌, append-nil}
 use native.Mathlib.Omega.{arith}
 use native.Mathlib.Numerals.{add-one}
@@ -9,6 +9,7 @@ use lib.Dec.{ltb}
 use lib.ListN.{length, take, set, length-append}
 use lib.Seq.{take-suc-set, length-take-le}
 use borrow.Author.Tests.{lt-ltb, le-ltb}
+use Rattle.std.specs.Prelude.{Option, None, Some, IfSome}
 use Rattle.lists.specs.Lists.{numbers, filter}
 use Rattle.lists.proofs.Cases.{by_cond, by_order}
 use Rattle.lists.proofs.Filters.{filter_more, filter-length, numbers-length}
@@ -16,28 +17,29 @@ use Rattle.segmentation.specs.Segments.{bin_at, is_valley, first_separators}
 use Rattle.segmentation.specs.Walk.{fell_after, pending}
 use Rattle.segmentation.proofs.Valleys.{rises_after, rises-level, rises-up, rises-down, rises-end, valley-fell, valley-not}
 
-pub pending-none : (fell : ℕ) → pending fell false ≡ []
+pub pending-none : (fell : Option ℕ) → pending fell false ≡ []
 unfolding pending
-pending-none fell = rw (and-false (ltb 0 fell))
+pending-none None = refl
+pending-none (Some bin) = refl
 
-pub pending-nowhere : (t : Bool) → pending 0 t ≡ []
+pub pending-nowhere : (t : Bool) → pending None t ≡ []
 unfolding pending
 pending-nowhere t = refl
 
-pub pending-some : (fell : ℕ) (t : Bool) → 0 < fell → pending fell t ≡ cond t (fell ∷ []) []
+pub pending-some : (bin : ℕ) (t : Bool) → pending (Some bin) t ≡ cond t (bin ∷ []) []
 unfolding pending
-pending-some fell t h = rw (lt-ltb 0 fell h)
+pending-some bin t = refl
 
 -- a store in the place after those found
-pub pending-store : (separators : List ℕ) (n fell : ℕ) (t : Bool) → n < length separators → 0 < fell → t ≡ true → take (n + 1) (set separators n fell) ≡ take n separators ++ pending fell t
-pending-store separators n fell t l h e = rw (add-one n, e, pending-some fell true h) (take-suc-set separators n fell l)
+pub pending-store : (separators : List ℕ) (n bin : ℕ) (t : Bool) → n < length separators → t ≡ true → take (n + 1) (set separators n bin) ≡ take n separators ++ pending (Some bin) t
+pending-store separators n bin t l e = rw (add-one n, e, pending-some bin true) (take-suc-set separators n bin l)
 
-module _ (fell i x y : ℕ) where
-  pub fell-down : y < x → fell_after fell i x y ≡ i
+module _ (fell : Option ℕ) (i x y : ℕ) where
+  pub fell-down : y < x → fell_after fell i x y ≡ Some i
   unfolding fell_after
   fell-down h = rw (lt-ltb y x h)
 
-  pub fell-up : x < y → fell_after fell i x y ≡ 0
+  pub fell-up : x < y → fell_after fell i x y ≡ None
   unfolding fell_after
   fell-up h = rw (le-ltb y x (omega arith), lt-ltb x y h)
 
@@ -45,19 +47,21 @@ module _ (fell i x y : ℕ) where
   unfolding fell_after
   fell-level h k = rw (le-ltb y x h, le-ltb x y k)
 
-  pub fell-within : (m : ℕ) → fell ≤ m → i ≤ m → fell_after fell i x y ≤ m
+  pub fell-within : (m : ℕ) → IfSome fell (λ bin. bin ≤ m) → i ≤ m → IfSome (fell_after fell i x y) (λ bin. bin ≤ m)
   unfolding fell_after
-  fell-within m h k = by_cond (λ (z : ℕ). z ≤ m) (ltb y x) i (cond (ltb x y) 0 fell) (λ e. k) (λ e. by_cond (λ (z : ℕ). z ≤ m) (ltb x y) 0 fell (λ f. omega arith) (λ f. h))
+  fell-within m h k =
+      by_cond (λ (z : Option ℕ). IfSome z (λ bin. bin ≤ m)) (ltb y x) (Some i) (cond (ltb x y) None fell) (λ e. k)
+      (λ e. by_cond (λ (z : Option ℕ). IfSome z (λ bin. bin ≤ m)) (ltb x y) None fell (λ f. tt) (λ f. h))
 
 -- xs are the separators found up to bin i, but for the place where the bins last fell
-abbrev pub Walked : List ℕ → ℕ → List ℕ → ℕ → Type 0
+abbrev pub Walked : List ℕ → ℕ → List ℕ → Option ℕ → Type 0
 Walked h i xs fell = 0 ∷ filter (is_valley h) (numbers 1 i) ≡ xs ++ pending fell (rises_after h i)
 
-pub walk_start : (h : List ℕ) → Walked h 0 (0 ∷ []) 0
+pub walk_start : (h : List ℕ) → Walked h 0 (0 ∷ []) None
 unfolding filter numbers pending
 walk_start h = refl
 
-module _ (h : List ℕ) (i : ℕ) (xs : List ℕ) (fell : ℕ) (l : suc i < length h) (w : Walked h i xs fell) where
+module _ (h : List ℕ) (i : ℕ) (xs : List ℕ) (fell : Option ℕ) (l : suc i < length h) (w : Walked h i xs fell) where
   more : 0 ∷ filter (is_valley h) (numbers 1 (suc i)) ≡ (xs ++ pending fell (rises_after h i)) ++ cond (is_valley h (suc i)) (suc i ∷ []) []
   more =
       let z : 1 + i ≡ suc i = omega arith in
@@ -68,7 +72,7 @@ module _ (h : List ℕ) (i : ℕ) (xs : List ℕ) (fell : ℕ) (l : suc i < leng
       let x = bin_at h i in
       let y = bin_at h (suc i) in
       rw (add-one i) (more ∙ by_order y x
-      (λ d. rw (fell-down fell (suc i) x y d, le-ltb x y (omega arith), rises-down h i l d, valley-fell h i l d, pending-some (suc i) (rises_after h (suc i)) (omega arith)))
+      (λ d. rw (fell-down fell (suc i) x y d, le-ltb x y (omega arith), rises-down h i l d, valley-fell h i l d, pending-some (suc i) (rises_after h (suc i))))
       (λ d. by_order x y
       (λ u. rw (fell-up fell (suc i) x y u, lt-ltb x y u, rises-up h i l u, valley-not h i l d, pending-nowhere (rises_after h (suc i))))
       (λ u. rw (fell-level fell (suc i) x y d u, le-ltb x y u, rises-level h i l (omega arith), valley-not h i l d, pending-none fell, append-nil xs)
@@ -81,7 +85,7 @@ last-not h i z =
     (λ d. valley-fell h i (omega arith) d ∙ rises-end h (suc i) (omega arith))
     (λ d. valley-not h i (omega arith) d)
 
-pub walk_end : (h : List ℕ) (i : ℕ) (xs : List ℕ) (fell : ℕ) → 2 ≤ length h → suc i ≡ length h → Walked h i xs fell → xs ++ i ∷ [] ≡ first_separators h
+pub walk_end : (h : List ℕ) (i : ℕ) (xs : List ℕ) (fell : Option ℕ) → 2 ≤ length h → suc i ≡ length h → Walked h i xs fell → xs ++ i ∷ [] ≡ first_separators h
 unfolding first_separators
 walk_end h zero xs fell two z w = absurd (omega arith)
 walk_end h (suc i) xs fell two z w =
@@ -105,7 +109,7 @@ separators-length h two =
     )
 
 -- there is room for the last one
-pub walk-room : (h : List ℕ) (i : ℕ) (separators : List ℕ) (n fell : ℕ) → 2 ≤ length h → suc i ≡ length h → n ≤ length separators → Walked h i (take n separators) fell → n < length h
+pub walk-room : (h : List ℕ) (i : ℕ) (separators : List ℕ) (n : ℕ) (fell : Option ℕ) → 2 ≤ length h → suc i ≡ length h → n ≤ length separators → Walked h i (take n separators) fell → n < length h
 walk-room h i separators n fell two z room w =
     omega (
       arith,

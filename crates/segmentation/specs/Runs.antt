@@ -5,6 +5,7 @@ use Rattle.std.specs.Int.Signed.{lt_z, mag}
 use Rattle.lists.specs.Lists.{total, part}
 use Rattle.verdict.specs.Test.{Closeness}
 use Rattle.pooling.specs.Limits.{Small}
+use Rattle.segmentation.specs.declared.Segments.{Segments}
 use Rattle.segmentation.specs.Segments.{Segment, segment_at, bin_at}
 use Rattle.segmentation.specs.Joining.{Reader, Join, join_of, last_start}
 use Rattle.segmentation.specs.Held.{segments_held}
@@ -37,6 +38,10 @@ RunsInside h separators peaks starts len = (i : ℕ) → i < starts → RunInsid
 -- how many segments are held for a search among n: those of a ring twice over
 abbrev pub held_count : (round : Bool) (n : ℕ) → ℕ
 held_count round n = cond round (n + n) n
+
+-- those segments
+abbrev pub held_for : (round : Bool) → {N : ℕ} → Segments N → List Segment
+held_for round s = segments_held s.separators s.peaks 0 (held_count round s.count)
 
 -- of all runs of two or more of n segments
 abbrev pub AllInside : (h separators peaks : List ℕ) (round : Bool) (n : ℕ) → Type 0

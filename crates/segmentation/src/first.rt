@@ -1,36 +1,39 @@
 // The first separators, segments and peaks of a line.
-ghost use Rattle.std.specs.Prelude.{◌≡◌, ◌++◌, ◌+◌, ◌-◌, ◌^◌, ◌≤◌, ◌<◌, length, take};
+ghost use Rattle.std.specs.Prelude.{◌≡◌, ◌++◌, ◌+◌, ◌-◌, ◌^◌, ◌≤◌, ◌<◌, length, take, IfSome};
 ghost use Rattle.pooling.specs.Limits.{most_bins};
 ghost use Rattle.segmentation.specs.Segments.{first_separators, first_highest, first_segments};
-ghost use Rattle.segmentation.specs.Held.{segments_held};
-ghost use Rattle.segmentation.specs.Walk.{fell_after, pending, InLine, PeaksHeld};
+ghost use Rattle.segmentation.specs.Held.{held};
+ghost use Rattle.segmentation.specs.Walk.{fell_after, pending};
 
 use crate::Segments;
 
-// The bin where the counts last fell, if they fell and have not risen since, else 0. `fell` is that bin before the step to bin i; the
-// step goes from a bin of x counts to one of y.
-fn fell_after(fell: usize, i: usize, x: u32, y: u32) -> usize
+// The bin where the counts last fell, if they fell and have not risen since. `fell` is that bin before the step to bin i; the step goes
+// from a bin of x counts to one of y.
+#[tactic(auto, unfolding(crate::specs::Walk::fell_after))]
+fn fell_after(fell: Option<usize>, i: usize, x: u32, y: u32) -> Option<usize>
     ensures { result ≡ fell_after fell i x y }
 {
     if y < x {
-        i
+        Some(i)
     } else if x < y {
-        0
+        None
     } else {
         fell
     }
 }
 
 // When the counts rise, the bin where they last fell becomes a separator. Returns how many separators there are then.
-fn put_valley(separators: &mut [u32], n: usize, fell: usize, rises: bool) -> usize
-    requires { (n < length separators.old) × (fell < 2 ^ 32) }
+fn put_valley(separators: &mut [u32], n: usize, fell: Option<usize>, rises: bool) -> usize
+    requires { (n < length separators.old) × IfSome fell (λ bin. bin < 2 ^ 32) }
     ensures { (result ≤ n + 1) × (take result separators.new ≡ take n separators.old ++ pending fell rises) }
 {
-    if 0 < fell && rises {
-        separators[n] = fell as u32;
-        return n + 1;
+    match fell {
+        Some(bin) if rises => {
+            separators[n] = bin as u32;
+            n + 1
+        }
+        _ => n,
     }
-    n
 }
 
 // Writes the first separators. Returns how many there are before the last one.
@@ -40,7 +43,7 @@ fn first_separators(h: &[u32], separators: &mut [u32]) -> usize
 {
     let last = h.len() - 1;
     let mut n: usize = 1;
-    let mut fell: usize = 0;
+    let mut fell = None;
     separators[0] = 0;
     for i in 0..last {
         let x = h[i];
@@ -66,27 +69,17 @@ fn first_highest(h: &[u32], start: usize, end: usize) -> usize
     best
 }
 
-// Writes the peaks of the n segments between the first separators.
-fn first_peaks(h: &[u32], separators: &[u32], peaks: &mut [u32], n: usize)
-    requires h_len_bound { (length h.now ≤ most_bins) × (n < length separators.now) × (n ≤ length peaks.old) }
-    requires in_line { InLine h.now separators.now n }
-    ensures { PeaksHeld h.now separators.now peaks.new n }
-{
-    for m in 0..n {
-        let start = separators[m] as usize;
-        let end = separators[m + 1] as usize;
-        peaks[m] = first_highest(h, start, end) as u32;
-    }
-}
-
 impl<const N: usize> Segments<N> {
     // Becomes the first segments of a line.
     pub fn first_segments(&mut self, h: &[u32])
         requires { (2 ≤ length h.now) × (length h.now ≤ most_bins) × (length h.now ≤ N) }
-        ensures { segments_held self.new.separators self.new.peaks 0 self.new.count ≡ first_segments h.now }
+        ensures { held self.new ≡ first_segments h.now }
     {
-        let n = first_separators(h, &mut self.separators);
-        first_peaks(h, &self.separators, &mut self.peaks, n);
-        self.count = n;
+        self.count = first_separators(h, &mut self.separators);
+        for m in 0..self.count {
+            let start = self.separators[m] as usize;
+            let end = self.separators[m + 1] as usize;
+            self.peaks[m] = first_highest(h, start, end) as u32;
+        }
     }
 }

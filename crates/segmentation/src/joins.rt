@@ -2,7 +2,7 @@
 ghost use Rattle.std.specs.Prelude.{◌≡◌, ◌+◌, ◌-◌, ◌≤◌, ◌<◌, length};
 ghost use Rattle.pooling.specs.Limits.{Small};
 ghost use Rattle.segmentation.specs.Joining.{line_reader, join, next_join, line_joins, join_all, line_modes};
-ghost use Rattle.segmentation.specs.Held.{segments_held, join_found};
+ghost use Rattle.segmentation.specs.Held.{held, join_found};
 ghost use Rattle.segmentation.specs.Runs.{OnLine};
 
 use crate::{Join, Search, Segments};
@@ -14,7 +14,7 @@ impl<const N: usize> Segments<N> {
     // the first.
     pub fn apply(&mut self, j: Join)
         requires { (2 ≤ j.len) × (j.first + j.len ≤ self.old.count) }
-        ensures joined { segments_held self.new.separators self.new.peaks 0 self.new.count ≡ join (segments_held self.old.separators self.old.peaks 0 self.old.count) j }
+        ensures joined { held self.new ≡ join (held self.old) j }
         ensures fewer { self.new.count ≡ self.old.count - (j.len - 1) }
     {
         let n = self.count;
@@ -29,7 +29,7 @@ impl<const N: usize> Segments<N> {
     // The join that comes next among the segments of a line, if there is one. With `apply`, which makes it, this is one step of joining.
     pub fn next_on_line(&self, sheet: &Sheet, h: &[u32], closeness: Closeness) -> Option<Join>
         requires { OnLine h.now self.now.separators self.now.peaks self.now.count }
-        ensures { join_found result ≡ next_join closeness (line_reader h.now) (segments_held self.now.separators self.now.peaks 0 self.now.count) }
+        ensures { join_found result ≡ next_join closeness (line_reader h.now) (held self.now) }
     {
         let all = Search {
             round: false,
@@ -41,8 +41,8 @@ impl<const N: usize> Segments<N> {
     // Joins the segments of a line, step by step, until no run is joinable.
     pub fn join_all(&mut self, sheet: &Sheet, h: &[u32], closeness: Closeness)
         requires { OnLine h.now self.old.separators self.old.peaks self.old.count }
-        ensures all { segments_held self.new.separators self.new.peaks 0 self.new.count
-            ≡ join_all self.old.count (line_joins closeness (line_reader h.now)) (segments_held self.old.separators self.old.peaks 0 self.old.count) }
+        ensures all { held self.new
+            ≡ join_all self.old.count (line_joins closeness (line_reader h.now)) (held self.old) }
         ensures fewer { self.new.count ≤ self.old.count }
     {
         while let Some(join) = self.next_on_line(sheet, h, closeness) {
@@ -51,11 +51,11 @@ impl<const N: usize> Segments<N> {
     }
 
     // Becomes the modes of a line. A single segment has nothing to join, and needs no sheet.
-    pub fn line(&mut self, h: &[u32], closeness: Closeness)
+    pub(crate) fn line(&mut self, h: &[u32], closeness: Closeness)
         requires small { Small h.now }
         requires in_bounds { 2 ≤ length h.now }
         requires h_in_bounds { length h.now ≤ N }
-        ensures { segments_held self.new.separators self.new.peaks 0 self.new.count ≡ line_modes closeness h.now }
+        ensures { held self.new ≡ line_modes closeness h.now }
     {
         self.first_segments(h);
         if self.count < 2 {

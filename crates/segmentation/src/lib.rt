@@ -43,7 +43,8 @@ impl<const N: usize> Segments<N> {
     }
 }
 
-// How a search goes through segments: along a line or round a ring. No run of the first `known` of them is joinable, so those runs are passed over.
+// How a search goes through segments: round a ring or along a line (the definition of the next join takes the same test). No run of the first `known` of
+// them is joinable, so those runs are passed over.
 #[derive(Clone, Copy)]
 pub struct Search {
     pub round: bool,

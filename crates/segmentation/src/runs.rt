@@ -8,7 +8,7 @@ ghost use Rattle.verdict.specs.Test.{cost};
 ghost use Rattle.verdict.specs.Scratch.{Capped};
 ghost use Rattle.segmentation.specs.Joining.{line_reader, join_of, last_start, cheapest, next_among};
 ghost use Rattle.segmentation.specs.Held.{segments_held, join_found};
-ghost use Rattle.segmentation.specs.Runs.{Prepared, Within, RunInside, RunsInside, held_count, AllInside, NoneBefore, NoneAmong, RunBelow, join_by, where_below};
+ghost use Rattle.segmentation.specs.Runs.{Prepared, Within, RunInside, RunsInside, held_count, held_for, AllInside, NoneBefore, NoneAmong, RunBelow, join_by, where_below};
 
 use crate::{Join, Search, Segments};
 use logarithm::Sheet;
@@ -99,9 +99,9 @@ impl<const N: usize> Segments<N> {
     ) -> Option<Join>
         requires prepared { Prepared self.now.separators self.now.peaks (held_count among.round self.now.count) }
         requires runs_inside { RunsInside h.now self.now.separators self.now.peaks (suc (last_start among.round self.now.count len)) len }
-        requires none_before { NoneBefore closeness (line_reader h.now) (segments_held self.now.separators self.now.peaks 0 (held_count among.round self.now.count)) (suc among.known - len) len }
+        requires none_before { NoneBefore closeness (line_reader h.now) (held_for among.round self.now) (suc among.known - len) len }
         requires le_len { (2 ≤ len) × (len ≤ self.now.count) × (self.now.count ≤ most_bins) × (among.known ≤ self.now.count) }
-        ensures { join_found result ≡ where_below (cheapest closeness (line_reader h.now) (segments_held self.now.separators self.now.peaks 0 (held_count among.round self.now.count)) (last_start among.round self.now.count len) len) }
+        ensures { join_found result ≡ where_below (cheapest closeness (line_reader h.now) (held_for among.round self.now) (last_start among.round self.now.count len) len) }
     {
         let from = among.first_start(len);
         let end = among.start_count(self.count, len);
@@ -128,9 +128,9 @@ impl<const N: usize> Segments<N> {
     ) -> Option<Join>
         requires prepared { Prepared self.now.separators self.now.peaks (held_count among.round self.now.count) }
         requires all_inside { AllInside h.now self.now.separators self.now.peaks among.round self.now.count }
-        requires none_among { NoneAmong closeness (line_reader h.now) (segments_held self.now.separators self.now.peaks 0 (held_count among.round self.now.count)) among.known }
+        requires none_among { NoneAmong closeness (line_reader h.now) (held_for among.round self.now) among.known }
         requires le_count { (1 ≤ self.now.count) × (self.now.count ≤ most_bins) × (among.known ≤ self.now.count) }
-        ensures { join_found result ≡ next_among closeness (line_reader h.now) (segments_held self.now.separators self.now.peaks 0 (held_count among.round self.now.count)) among.round self.now.count }
+        ensures { join_found result ≡ next_among closeness (line_reader h.now) (held_for among.round self.now) among.round self.now.count }
     {
         for len in 2..self.count + 1 {
             let best = self.cheapest_below(sheet, h, closeness, among, len);

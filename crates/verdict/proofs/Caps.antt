@@ -166,12 +166,6 @@ module _ (h : List ℕ) (bs : List Block) (limit : ℤ) where
   best-bin turn ps j b u c =
       best-raised b u c (λ i m v. by_order m j (λ l. inl (l, v.1, v.2)) (λ l. let e : m ≡ j = omega arith in inr (e, rw e at v.1, rw e at v.2)))
 
-  -- both turns
-  pub best-turns : (ps : List Place) {r s : ℤ} → BestOf h bs limit (Visits WithinBlocks ps (length h)) r → r ≤ℤ s
-      → BestOf h bs limit (Visits AcrossBlocks ps (length h)) s → BestOf h bs limit (Part h) s
-  best-turns ps b u c =
-      best-raised b u c (λ i j v. by_order i (start_of ps j) (λ l. inr (v.1, omega arith, l)) (λ l. inl (v.1, l, omega arith)))
-
   -- all are visited: the best is the largest where that is below the limit, else it reaches the limit
   module _ (some : 0 < length h) (r : ℤ) (b : BestOf h bs limit (Part h) r) where
     best-le : r ≤ℤ largest_weight h bs

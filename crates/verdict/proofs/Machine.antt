@@ -1,22 +1,15 @@
--- Signed numbers as the machine holds them: the difference of two natural numbers, the test of two signed numbers, and one that is not negative read as a natural number. Assumes nothing.
+-- Signed numbers as the machine holds them: compared, read from their bits, added and subtracted, and one that is not negative read as a natural number. Assumes nothing.
 use mathlib.Core.Path.{◌≡◌, sym, ap, ◌∙◌}
 use mathlib.Core.Bool.{Bool}
 use Prim.Native.Nat.{ℕ, ◌+◌, ◌-◌, ◌^◌, ◌≤◌, ◌<◌}
 use native.Mathlib.Omega.{arith}
-use lib.Dec.{T, le→leb}
-use lib.IntN.{ℤ, pos, negsuc, nat_abs, sub_ℕ, ◌+ℤ◌, ◌-ℤ◌}
-use lib.Signed.{lt_z, mag, non_neg, ◌≤ℤ◌}
+use lib.Dec.{le→leb}
+use lib.IntN.{ℤ, pos, negsuc, nat_abs, ◌+ℤ◌, ◌-ℤ◌}
+use lib.Signed.{lt_z, mag, ◌≤ℤ◌}
 use mir.Syntax.{w64}
-use mir.Val.{Fits, SFits, to_z, of_z}
-use mir.ValLaws.{to_z_pos, to_z-of_z}
-use Rattle.lists.proofs.Signed.{difference-is, difference_below, sum-size, less-size}
-
-pub difference-fits : (a b : ℕ) → a < 2 ^ 63 → b < 2 ^ 63 → SFits w64 (sub_ℕ a b)
-difference-fits a b h k = record { sfits = difference_below a b (2 ^ 63) h k }
-
--- the machine's difference of two numbers below 2 ^ 63
-pub machine-difference : (a b : ℕ) → a < 2 ^ 63 → b < 2 ^ 63 → to_z w64 a -ℤ to_z w64 b ≡ sub_ℕ a b
-machine-difference a b h k = rw (to_z_pos w64 a h, to_z_pos w64 b k) (difference-is a b)
+use mir.Val.{SFits, to_z, of_z}
+use mir.ValLaws.{to_z-of_z}
+use Rattle.lists.proofs.Signed.{sum-size, less-size}
 
 -- the machine's test of two signed numbers
 pub machine-less : (x y : ℤ) (t : Bool) → SFits w64 x → SFits w64 y → lt_z (to_z w64 (of_z w64 x)) (to_z w64 (of_z w64 y)) ≡ t → lt_z x y ≡ t
@@ -32,11 +25,6 @@ sum_fits x y h k = record { sfits = sum-size x y (2 ^ 63) (omega arith) }
 
 pub less-fits : (x y : ℤ) → mag x < 2 ^ 62 → mag y < 2 ^ 62 → SFits w64 (x -ℤ y)
 less-fits x y h k = record { sfits = less-size x y (2 ^ 63) (omega arith) }
-
--- a signed number that is not negative, as a natural one
-pub natural-fits : (z : ℤ) → mag z < 2 ^ 63 → pos 0 ≤ℤ z → T (non_neg z) × Fits w64 (nat_abs z)
-natural-fits (pos a) h l = (tt, record { fits = omega arith })
-natural-fits (negsuc a) h l = absurd l.le
 
 -- what it is above l
 pub natural-above : (z : ℤ) (l : ℕ) → pos 0 ≤ℤ z → l ≤ nat_abs z → pos (nat_abs z - l + l) ≤ℤ z

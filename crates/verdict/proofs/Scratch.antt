@@ -2,11 +2,10 @@
 use Prim.Native.Nat.{ℕ, suc, ◌+◌, ◌-◌, ◌≤◌, ◌<◌}
 use mathlib.Core.Path.{◌≡◌, sym, ap, ap₂, ◌∙◌}
 use mathlib.Core.List.{List}
-use native.Mathlib.Nat.{le_refl}
 use native.Mathlib.Numerals.{add-one}
 use native.Mathlib.Omega.{arith}
 use lib.ListN.{length, get_or, take, drop, set}
-use lib.Seq.{get_or-set_same, get_or-set_other, take-length}
+use lib.Seq.{get_or-set_same, get_or-set_other}
 use Rattle.lists.specs.Lists.{total, part, over}
 use Rattle.lists.proofs.Cases.{last_or}
 use Rattle.lists.proofs.Sums.{total-more}
@@ -45,9 +44,6 @@ pub running-between : (h before : List ℕ) (a b : ℕ) → a ≤ b → b ≤ le
 running-between h before a b l m r =
     let e : b ≡ a + (b - a) = omega arith in
     r b m ∙ ap (λ (n : ℕ). total (take n h)) e ∙ omega (arith, total-take-add a (b - a) h, r a (omega arith))
-
-pub running-all : (h before : List ℕ) → RunningTotals h before → get_or before (length h) 0 ≡ total h
-running-all h before r = r (length h) (le_refl (length h)) ∙ ap total (take-length h)
 
 -- the counts of a part, from the totals before its first bin and behind its last
 pub running-part : (h before : List ℕ) (i j : ℕ) → i ≤ j → j < length h → RunningTotals h before

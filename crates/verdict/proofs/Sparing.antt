@@ -34,13 +34,6 @@ room_small a b l h =
     let t : 4 * (a * (b - a)) ≤ b * b = rw all at (four-product a (b - a)) in
     omega arith
 
-pub scaled_small : (x c : ℕ) → x < 2 ^ 62 → c < 64 → x / 2 ^ 4 * c < 2 ^ 64
-scaled_small x c h k =
-    let u : x / 2 ^ 4 ≤ 2 ^ 58 - 1 = omega arith in
-    let v : c ≤ 63 = omega arith in
-    let s : x / 2 ^ 4 * c ≤ (2 ^ 58 - 1) * 63 = mul-le-mul u v in
-    omega arith
-
 -- d·(d + 1)
 pub steps-fit : (d : ℕ) → d < 2 ^ 32 → d * (d + 1) < 2 ^ 64
 steps-fit d h =

@@ -3,22 +3,16 @@ use Rattle.std.specs.Prelude.{ℕ, List, ℤ}
 use Rattle.lists.specs.Lists.{total}
 use Rattle.pooling.specs.declared.Block.{Block}
 use Rattle.pooling.specs.Blocks.{direction, blocks}
-use Rattle.verdict.specs.declared.Mass.{Mass}
 use Rattle.verdict.specs.declared.Threshold.{Threshold}
 use Rattle.verdict.specs.declared.Best.{Best}
 use Rattle.verdict.specs.declared.parts.Turn.{Turn}
 use Rattle.verdict.specs.declared.parts.Stretch.{Stretch}
-use Rattle.verdict.specs.Test.{fitted_mass}
 use Rattle.verdict.specs.Near.{Spares, NearUpTo}
 use Rattle.verdict.specs.Scratch.{start_of, first_of, end_of, Attained, BestOf}
 
 -- the blocks of the stretch's fit
 abbrev pub fit_of : Stretch → List Block
 fit_of s = blocks (direction s.rising) s.h.now
-
--- the fitted mass of the part from bin i to bin j
-abbrev pub mass_of : Stretch → ℕ → ℕ → Mass
-mass_of s i j = fitted_mass s.h.now (fit_of s) i j
 
 -- of the parts that end at bin j, a turn visits those that begin from first_in up to, but not including, end_in
 abbrev pub first_in : Turn → Stretch → ℕ → ℕ

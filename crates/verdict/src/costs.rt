@@ -28,7 +28,8 @@ fn best_of<'a>(sheet: &'a Sheet, h: &'a [u32], rising: bool, limit: i64) -> i64
     requires in_bounds { 1 ≤ length h.now }
     ensures { BestOf h.now (blocks (direction rising) h.now) limit (Part h.now) result }
 {
-    if limit <= 0 {
+    let whole_is_enough = limit <= 0;
+    if whole_is_enough {
         return 0;
     }
     let mut before = [0u32; MOST_TOTALS];

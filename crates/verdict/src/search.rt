@@ -1,5 +1,5 @@
 // The search for the best weight of a stretch's parts, up to a limit: it stops at the first weight that reaches the limit, and weighs no part that is near its fitted mass.
-ghost use Rattle.std.specs.Prelude.{◌≡◌, cond, ◌≤◌, ◌<◌, length, ◌≤ℤ◌, MatchOption};
+ghost use Rattle.std.specs.Prelude.{◌≡◌, cond, ◌≤◌, ◌<◌, length, ◌≤ℤ◌};
 ghost use Rattle.std.specs.Int.Signed.{lt_z};
 ghost use Rattle.lists.specs.Lists.{total};
 ghost use Rattle.pooling.specs.Limits.{most_counts};
@@ -25,28 +25,22 @@ fn better(n: u64, best: Best, weight: i64) -> Best
     best
 }
 
-// Of the parts that end at bin j and begin from bin `first` up to, but not including, `end`, the first that is not near its fitted mass: where it begins.
-fn first_far(
-    s: &Stretch,
-    turn: Turn,
-    j: usize,
-    first: usize,
-    end: usize,
-    t: Threshold,
-) -> Option<usize>
-    requires j_in_bounds { (j < length s.now.h.now) × (first_in turn s.now j ≤ first) × (end ≤ end_in turn s.now j) }
+// Of the parts that end at bin j, the first from bin `first` on that is not near its fitted mass; `end` if all before that are.
+// Not an `Option`: with `None` for `end` the compiler keeps more values in the loop, and a search takes a tenth more instructions.
+fn first_far(s: &Stretch, turn: Turn, j: usize, first: usize, end: usize, t: Threshold) -> usize
+    requires j_in_bounds { (j < length s.now.h.now) × (first_in turn s.now j ≤ first) × (first ≤ end) × (end ≤ end_in turn s.now j) }
     requires usable { Usable t }
-    ensures { MatchOption result (NearIn s.now t j first end) (λ i. (first ≤ i) × (i < end) × NearIn s.now t j first i) }
+    ensures { (first ≤ result) × (result ≤ end) × NearIn s.now t j first result }
 {
     let n = s.counts();
     for i in first..end {
         let k = s.part_counts(i, j);
         let m = s.part_mass(turn, i, j);
         if !is_near(n, k, m, t) {
-            return Some(i);
+            return i;
         }
     }
-    None
+    end
 }
 
 // A search of the parts of a stretch.
@@ -81,13 +75,16 @@ impl Search<'_> {
         let end = turn.end_of(start, j);
         let mut found = best;
         let mut next = turn.first_of(start);
-        // Not a `for`: each pass skips all near parts before the one that it weighs, by the threshold of the best so far.
-        while let Some(i) = first_far(&self.stretch, turn, j, next, end, found.threshold) {
-            found = self.tried(turn, i, j, found);
-            if found.weight >= self.limit {
-                return found;
+        // Not a `for`: each pass skips the near parts before the one that it weighs.
+        while next < end {
+            next = first_far(&self.stretch, turn, j, next, end, found.threshold);
+            if next < end {
+                found = self.tried(turn, next, j, found);
+                if found.weight >= self.limit {
+                    return found;
+                }
+                next += 1;
             }
-            next = i + 1;
         }
         found
     }

@@ -11,8 +11,8 @@ use Rattle.verdict.proofs.Caps.{turn-ordered}
 use Rattle.verdict.proofs.search.first_far.Goals as goal
 
 ordered : (w : Direction) (h : List ℕ) (ps : List Place) (turn : Turn) (j first end i : ℕ) → PlacesHeld w h ps
-    → (j < length h) × (first_of turn (start_of ps j) ≤ first) × (end ≤ end_of turn (start_of ps j) j) → first ≤ i → i < end → i ≤ j
-ordered w h ps turn j first end i held r a b = turn-ordered w h ps turn i j held (r.0, le_trans r.1 a, lt_of_lt_of_le b r.2)
+    → (j < length h) × (first_of turn (start_of ps j) ≤ first) × (first ≤ end) × (end ≤ end_of turn (start_of ps j) j) → first ≤ i → i < end → i ≤ j
+ordered w h ps turn j first end i held r a b = turn-ordered w h ps turn i j held (r.0, le_trans r.1 a, lt_of_lt_of_le b r.3)
 
 pub loop-i-init : goal.loop-i-init
 loop-i-init c k a b = absurd (omega arith)

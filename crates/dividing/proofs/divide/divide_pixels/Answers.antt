@@ -1,0 +1,76 @@
+use Rattle.std.proofs.Common.{◌≡◌, ◌+◌, ◌-◌, ◌++◌, ◌∙◌, ℕ, length, take, drop, sym, arith, rules}
+use Rattle.palette.specs.Cards.{pixels_of, most_entries}
+use Rattle.verdict.specs.Settings.{closeness_of}
+use Rattle.dividing.proofs.Walking.{slice_from, put_from}
+use Rattle.dividing.proofs.Halves.{kinds-laid, greys-long, greys-room, colours-lent, colours-long, colours-room, both-divided, some-few}
+use Rattle.dividing.proofs.divide.divide_pixels.Goals as goal
+
+-- the greys
+pub split_some-requires : goal.split_some-requires
+split_some-requires c =
+    let k = c.sort_kinds-greys in
+    let o = k.new.greys in
+    let t = k.new.colours in
+    let g = k.result in
+    let n = length c.args.order.now in
+    let bytes = c.args.pixels.now in
+    let laid = kinds-laid bytes o t g n c.requires.0 k.auto.greys (k.auto.colours ∙ sym c.requires.1) k.ensures in
+    let long = greys-long bytes o t g n laid in
+    record {
+      setting = c.requires.4;
+      room = omega arith;
+      codes = omega arith;
+      lists = greys-room bytes o t g n laid;
+      keyed = omega (arith, long, laid.some, c.requires.2);
+      few = omega (arith, long, laid.some, c.requires.3);
+      inside = laid.greys_in;
+      coloured = λ e. absurd (omega arith);
+    }
+
+-- the colours
+pub split_some-requires-2 : goal.split_some-requires-2
+split_some-requires-2 c =
+    let k = c.sort_kinds-greys in
+    let o = k.new.greys in
+    let t = k.new.colours in
+    let g = k.result in
+    let n = length c.args.order.now in
+    let bytes = c.args.pixels.now in
+    let laid = kinds-laid bytes o t g n c.requires.0 k.auto.greys (k.auto.colours ∙ sym c.requires.1) k.ensures in
+    let f = c.split_some in
+    let u = f.new.order in
+    let v = f.new.other in
+    let long = colours-long bytes o t g n laid u v f.auto.order f.auto.other in
+    let lent = colours-lent bytes o t g n laid u v f.auto.order f.auto.other in
+    let few = some-few (closeness_of c.args.setting) (pixels_of bytes) 1 0 (take g o) in
+    record {
+      setting = c.requires.4;
+      room = omega (arith, few, f.ensures.count);
+      codes = omega arith;
+      lists = colours-room bytes o t g n laid u v f.auto.order f.auto.other;
+      keyed = omega (arith, long, laid.order, c.requires.2, f.auto.keys);
+      few = omega (arith, long, laid.order, c.requires.3);
+      inside = rw lent laid.colours_in;
+      coloured = λ e. rw lent laid.coloured;
+    }
+
+pub returns : goal.returns
+unfolding most_entries
+returns c =
+    let k = c.sort_kinds-greys in
+    let o = k.new.greys in
+    let t = k.new.colours in
+    let g = k.result in
+    let n = length c.args.order.now in
+    let bytes = c.args.pixels.now in
+    let laid = kinds-laid bytes o t g n c.requires.0 k.auto.greys (k.auto.colours ∙ sym c.requires.1) k.ensures in
+    let f = c.split_some in
+    let u = f.new.order in
+    let v = f.new.other in
+    let s = c.split_some-2 in
+    let w = s.new.order in
+    let copied : c.copy_from_slice.new.self ≡ slice_from (length o - g) (w ++ drop (length o - g) (put_from (length o - g) t v)) = search rules in
+    let room : length c.args.found.now.ranges ≡ 1000 = search rules in
+    (both-divided bytes o t g n laid u v f.auto.order f.auto.other w s.new.other s.auto.order s.auto.other c.copy_from_slice.new.self copied
+    (closeness_of c.args.setting) (λ j. let known = c.type_inv.pixels j in omega arith)
+    _ _ _ _ _ _ f.new.found.count s.new.found.count f.ensures s.ensures, room)

@@ -1,0 +1,7 @@
+-- The pixels passed have their label.
+use Rattle.std.proofs.Common.{◌≡◌, take}
+use Rattle.making.specs.Making.{labelled}
+use Rattle.making.proofs.entries.label_range.Given as goal
+
+abbrev pub invariant-loop-number : goal.invariant-loop-number
+invariant-loop-number l = l.labels ≡ labelled l.label (take l.number-index l.numbers) l.fn.labels
