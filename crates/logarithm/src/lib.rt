@@ -44,7 +44,7 @@ impl Logarithm {
         let zeros = u64::leading_zeros(x);
         Logarithm {
             mantissa: x << (zeros - 32),
-            bits: (63 - zeros) as u64,
+            bits: u64::from(63 - zeros),
         }
     }
 
@@ -75,32 +75,34 @@ pub struct Odd {
     pub twos: u64,
 }
 
-// A number without its factors of 2, and how many there are.
-fn take_apart(x: u64) -> Odd
-    requires { Loggable x }
-    ensures { result ≡ record { odd = odd_part x; twos = twos_of x } }
-{
-    let zeros = u64::trailing_zeros(x);
-    Odd {
-        odd: x >> zeros,
-        twos: zeros as u64,
+impl Odd {
+    // A number without its factors of 2, and how many there are.
+    fn of(x: u64) -> Self
+        requires { Loggable x }
+        ensures { result ≡ record { odd = odd_part x; twos = twos_of x } }
+    {
+        let zeros = u64::trailing_zeros(x);
+        Odd {
+            odd: x >> zeros,
+            twos: u64::from(zeros),
+        }
     }
-}
 
-// The sheet has the odd part, so the logarithm need not be found by rounds.
-fn on_sheet(p: Odd) -> bool
-    ensures { result ≡ leb p.odd sheet_size }
-{
-    p.odd <= SHEET_SIZE as u64
-}
+    // The sheet has the odd part, so the logarithm need not be found by rounds.
+    fn is_on_sheet(self) -> bool
+        ensures { result ≡ leb self.odd sheet_size }
+    {
+        self.odd <= SHEET_SIZE as u64
+    }
 
-// The logarithm of a number whose odd part is on the sheet: one more bit for each factor of 2.
-fn read(sheet: &[u32; SHEET_SIZE], p: Odd) -> u64
-    requires { (sheet.now ≡ log_sheet) × (1 ≤ p.odd) × (p.odd ≤ sheet_size) × (p.twos < 32) }
-    ensures { result ≡ lg p.odd + p.twos * units_per_bit }
-{
-    let place = (p.odd - 1) as usize;
-    u64::from(sheet[place]) + Logarithm::units(p.twos)
+    // The logarithm of a number whose odd part is on the sheet: one more bit for each factor of 2.
+    fn read(self, sheet: &[u32; SHEET_SIZE]) -> u64
+        requires { (sheet.now ≡ log_sheet) × (1 ≤ self.odd) × (self.odd ≤ sheet_size) × (self.twos < 32) }
+        ensures { result ≡ lg self.odd + self.twos * units_per_bit }
+    {
+        let place = (self.odd - 1) as usize;
+        u64::from(sheet[place]) + Logarithm::units(self.twos)
+    }
 }
 
 // The logarithms of numbers that the sheet has none of: their workers do their rounds side by side in one loop, so that while one waits for its last squaring, the
