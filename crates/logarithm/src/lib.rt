@@ -11,7 +11,8 @@ ghost use Rattle.logarithm.specs.Sheet.{sheet_size, log_sheet, twos_of, odd_part
 ghost use Rattle.logarithm.specs.Worker.{Ready, start, round};
 
 pub use numbers::Numbers;
-pub use sheet::{SHEET_SIZE, copied_sheet};
+use sheet::SHEET_SIZE;
+pub use sheet::Sheet;
 
 // The state between rounds: a mantissa of 2^31 or more and below 2^32, and the bits of the logarithm found so far.
 #[derive(Clone, Copy)]
@@ -94,15 +95,6 @@ fn on_sheet(p: Odd) -> bool
     p.odd <= SHEET_SIZE as u64
 }
 
-// The logarithm of a number whose odd part is on the sheet: one more bit for each factor of 2.
-fn read(sheet: &[u32; SHEET_SIZE], p: Odd) -> u64
-    requires { (sheet.now ≡ log_sheet) × (1 ≤ p.odd) × (p.odd ≤ sheet_size) × (p.twos < 32) }
-    ensures { result ≡ lg p.odd + p.twos * units_per_bit }
-{
-    let place = (p.odd - 1) as usize;
-    u64::from(sheet[place]) + Logarithm::units(p.twos)
-}
-
 // The logarithms of numbers that the sheet has none of: their workers do their rounds side by side in one loop, so that while one waits for its last squaring, the
 // others go on.
 fn by_rounds<X: Numbers>(x: X) -> X
@@ -115,17 +107,4 @@ fn by_rounds<X: Numbers>(x: X) -> X
         workers = X::round(workers);
     }
     X::bits(workers)
-}
-
-// The logarithm of a number below 2^32, or of each of several, in units of 1/UNITS_PER_BIT of a bit.
-pub fn lg<X: Numbers>(sheet: &[u32; SHEET_SIZE], x: X) -> X
-    requires sheet { sheet.now ≡ log_sheet }
-    requires loggable { X.loggable x }
-    ensures { result ≡ X.logs x }
-{
-    if x.past_sheet() {
-        by_rounds(x)
-    } else {
-        x.in_turn(sheet)
-    }
 }

@@ -1,10 +1,10 @@
 // Numbers whose logarithms are taken together: one, or a pair of such. A pair of pairs is four.
 ghost use Rattle.std.specs.Prelude.{◌≡◌, ℕ, Bool, false, not, ◌&&◌, ◌+◌, ◌<◌};
 ghost use Rattle.logarithm.specs.Log.{Loggable, round_count, lg};
-ghost use Rattle.logarithm.specs.Sheet.{log_sheet, on_sheet};
+ghost use Rattle.logarithm.specs.Sheet.{on_sheet};
 ghost use Rattle.logarithm.specs.Worker.{Ready, start, round, after};
 
-use crate::{Logarithm, SHEET_SIZE, on_sheet, read, take_apart};
+use crate::{Logarithm, Sheet, on_sheet, take_apart};
 
 pub trait Numbers: Copy {
     // The states of their workers between rounds.
@@ -32,8 +32,7 @@ pub trait Numbers: Copy {
         ensures { result ≡ past_sheet self };
 
     // One logarithm after the other, since the sheet has at least one of them.
-    fn in_turn(self, sheet: &[u32; SHEET_SIZE]) -> Self
-        requires sheet { sheet.now ≡ log_sheet }
+    fn in_turn(self, sheet: &Sheet) -> Self
         requires loggable { loggable self }
         requires some { past_sheet self ≡ false }
         ensures { result ≡ logs self };
@@ -77,8 +76,8 @@ impl Numbers for u64 {
         !on_sheet(take_apart(self))
     }
 
-    fn in_turn(self, sheet: &[u32; SHEET_SIZE]) -> u64 {
-        read(sheet, take_apart(self))
+    fn in_turn(self, sheet: &Sheet) -> u64 {
+        sheet.read(take_apart(self))
     }
 
     fn start(self) -> Logarithm {
@@ -115,8 +114,8 @@ impl<A: Numbers, B: Numbers> Numbers for (A, B) {
         self.0.past_sheet() && self.1.past_sheet()
     }
 
-    fn in_turn(self, sheet: &[u32; SHEET_SIZE]) -> (A, B) {
-        (crate::lg(sheet, self.0), crate::lg(sheet, self.1))
+    fn in_turn(self, sheet: &Sheet) -> (A, B) {
+        (sheet.lg(self.0), sheet.lg(self.1))
     }
 
     fn start(self) -> (A::Workers, B::Workers) {

@@ -1,8 +1,45 @@
 // The sheet: the logarithms of the numbers from 1 to 1,024, in units of 1/67,108,864 of a bit. That of x is at place x - 1 (rule L5).
-ghost use Rattle.std.specs.Prelude.{◌≡◌};
-ghost use Rattle.logarithm.specs.Sheet.{log_sheet};
+ghost use Rattle.std.specs.Prelude.{◌≡◌, ◌+◌, ◌≤◌, ◌<◌, ◌*◌};
+ghost use Rattle.logarithm.specs.Log.{lg, units_per_bit};
+ghost use Rattle.logarithm.specs.Sheet.{sheet_size, log_sheet};
+
+use crate::{Logarithm, Numbers, Odd, by_rounds};
 
 pub const SHEET_SIZE: usize = 1024;
+
+// The sheet, to be lent to all that take logarithms: a constant array is laid on the stack whenever it is indexed, so it is copied only once.
+#[derive(Drop)]
+pub struct Sheet {
+    logs: [u32; SHEET_SIZE],
+    ghost stored: { logs ≡ log_sheet },
+}
+
+impl Sheet {
+    pub fn copied() -> Self {
+        Sheet { logs: SHEET }
+    }
+
+    // The logarithm of a number whose odd part is on the sheet: one more bit for each factor of 2.
+    pub(crate) fn read(&self, p: Odd) -> u64
+        requires { (1 ≤ p.odd) × (p.odd ≤ sheet_size) × (p.twos < 32) }
+        ensures { result ≡ lg p.odd + p.twos * units_per_bit }
+    {
+        let place = (p.odd - 1) as usize;
+        u64::from(self.logs[place]) + Logarithm::units(p.twos)
+    }
+
+    // The logarithm of a number below 2^32, or of each of several, in units of 1/UNITS_PER_BIT of a bit.
+    pub fn lg<X: Numbers>(&self, x: X) -> X
+        requires { X.loggable x }
+        ensures { result ≡ X.logs x }
+    {
+        if x.past_sheet() {
+            by_rounds(x)
+        } else {
+            x.in_turn(self)
+        }
+    }
+}
 
 pub const SHEET: [u32; SHEET_SIZE] = [
     0, 67108864, 106365032, 134217728, 155821956, 173473896, 188398399, 201326592, 212730065,
@@ -134,10 +171,3 @@ pub const SHEET: [u32; SHEET_SIZE] = [
     669755829, 669851641, 669947358, 670042980, 670138508, 670233942, 670329282, 670424528,
     670519680, 670614739, 670709705, 670804578, 670899358, 670994045, 671088640,
 ];
-
-// The sheet, to be lent to all that read it: a constant array is laid on the stack whenever it is indexed, so it is copied only once.
-pub fn copied_sheet() -> [u32; SHEET_SIZE]
-    ensures { result ≡ log_sheet }
-{
-    SHEET
-}

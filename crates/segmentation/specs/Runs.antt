@@ -3,9 +3,7 @@ use Rattle.std.specs.Prelude.{ℕ, suc, ◌+◌, ◌*◌, ◌-◌, ◌^◌, ◌�
 use Rattle.std.proofs.Math.Option.{Option, none, some}
 use Rattle.std.specs.Int.Signed.{lt_z, mag}
 use Rattle.lists.specs.Lists.{total, part}
-use Rattle.logarithm.specs.Sheet.{log_sheet}
 use Rattle.verdict.specs.Test.{Closeness}
-use Rattle.verdict.specs.Settings.{last_setting}
 use Rattle.pooling.specs.Limits.{Small}
 use Rattle.segmentation.specs.declared.Segments.{Segments}
 use Rattle.segmentation.specs.Segments.{Segment, segment_at, bin_at}
@@ -13,15 +11,13 @@ use Rattle.segmentation.specs.Joining.{Reader, Join, join_of, last_start}
 use Rattle.segmentation.specs.Held.{segments_held}
 use Rattle.segmentation.specs.Finished.{Cut, RingCut}
 
--- the sheet of logarithms, a setting in range, and two lists with room for so many segments
-pub record Prepared (sheet : List ℕ) (setting : ℕ) (separators peaks : List ℕ) (held : ℕ) : Type 0 where
-  pub logs : sheet ≡ log_sheet
-  pub close : setting ≤ last_setting
+-- two lists with room for so many segments
+pub record Prepared (separators peaks : List ℕ) (held : ℕ) : Type 0 where
   pub places : (held < length separators) × (held ≤ length peaks)
 
 -- n segments that cut a line, with what a search among them needs
-pub record OnLine (sheet : List ℕ) (setting : ℕ) (h separators peaks : List ℕ) (n : ℕ) : Type 0 where
-  pub prepared : Prepared sheet setting separators peaks n
+pub record OnLine (h separators peaks : List ℕ) (n : ℕ) : Type 0 where
+  pub prepared : Prepared separators peaks n
   pub small : Small h
   pub cut : Cut (length h) (segments_held separators peaks 0 n)
 

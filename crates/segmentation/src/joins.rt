@@ -1,13 +1,13 @@
 // Joining a run of segments in place, and joining until no run is joinable.
 ghost use Rattle.std.specs.Prelude.{◌≡◌, ◌+◌, ◌-◌, ◌≤◌, ◌<◌, length};
-ghost use Rattle.verdict.specs.Settings.{last_setting, closeness_of};
 ghost use Rattle.pooling.specs.Limits.{Small};
 ghost use Rattle.segmentation.specs.Joining.{line_reader, join, next_join, line_joins, join_all, line_modes};
 ghost use Rattle.segmentation.specs.Held.{held, join_found};
 ghost use Rattle.segmentation.specs.Runs.{OnLine};
 
 use crate::{Join, Search, Segments};
-use logarithm::{SHEET_SIZE, copied_sheet};
+use logarithm::Sheet;
+use verdict::Closeness;
 
 impl<const N: usize> Segments<N> {
     // Joins a run of the segments in place. The separators inside the run are dropped, and what follows moves down. Of its peaks a rise keeps the last, a fall
@@ -27,41 +27,41 @@ impl<const N: usize> Segments<N> {
     }
 
     // The join that comes next among the segments of a line, if there is one. With `apply`, which makes it, this is one step of joining.
-    pub fn next_on_line(&self, sheet: &[u32; SHEET_SIZE], h: &[u32], setting: u32) -> Option<Join>
-        requires { OnLine sheet.now setting h.now self.now.separators self.now.peaks self.now.count }
-        ensures { join_found result ≡ next_join (closeness_of setting) (line_reader h.now) (held self.now) }
+    pub fn next_on_line(&self, sheet: &Sheet, h: &[u32], closeness: Closeness) -> Option<Join>
+        requires { OnLine h.now self.now.separators self.now.peaks self.now.count }
+        ensures { join_found result ≡ next_join closeness (line_reader h.now) (held self.now) }
     {
         let all = Search {
             round: false,
             known: 0,
         };
-        self.next_join(sheet, h, setting, all)
+        self.next_join(sheet, h, closeness, all)
     }
 
     // Joins the segments of a line, step by step, until no run is joinable.
-    pub fn join_all(&mut self, sheet: &[u32; SHEET_SIZE], h: &[u32], setting: u32)
-        requires { OnLine sheet.now setting h.now self.old.separators self.old.peaks self.old.count }
+    pub fn join_all(&mut self, sheet: &Sheet, h: &[u32], closeness: Closeness)
+        requires { OnLine h.now self.old.separators self.old.peaks self.old.count }
         ensures all { held self.new
-            ≡ join_all self.old.count (line_joins (closeness_of setting) (line_reader h.now)) (held self.old) }
+            ≡ join_all self.old.count (line_joins closeness (line_reader h.now)) (held self.old) }
         ensures fewer { self.new.count ≤ self.old.count }
     {
-        while let Some(join) = self.next_on_line(sheet, h, setting) {
+        while let Some(join) = self.next_on_line(sheet, h, closeness) {
             self.apply(join);
         }
     }
 
     // Becomes the modes of a line. A single segment has nothing to join, and needs no sheet.
-    pub(crate) fn line(&mut self, h: &[u32], setting: u32)
+    pub(crate) fn line(&mut self, h: &[u32], closeness: Closeness)
         requires small { Small h.now }
-        requires in_bounds { (2 ≤ length h.now) × (setting ≤ last_setting) }
+        requires in_bounds { 2 ≤ length h.now }
         requires h_in_bounds { length h.now ≤ N }
-        ensures { held self.new ≡ line_modes (closeness_of setting) h.now }
+        ensures { held self.new ≡ line_modes closeness h.now }
     {
         self.first_segments(h);
         if self.count < 2 {
             return;
         }
-        let sheet = copied_sheet();
-        self.join_all(&sheet, h, setting);
+        let sheet = Sheet::copied();
+        self.join_all(&sheet, h, closeness);
     }
 }

@@ -2,19 +2,17 @@
 ghost use Rattle.std.specs.Prelude.{◌≡◌, suc, ◌+◌, ◌-◌, ◌≤◌, ◌<◌, ◌^◌, pos};
 ghost use Rattle.std.specs.Int.Signed.{mag};
 ghost use Rattle.lists.specs.Lists.{part};
-ghost use Rattle.logarithm.specs.Sheet.{log_sheet};
 ghost use Rattle.pooling.specs.Blocks.{direction};
 ghost use Rattle.pooling.specs.Limits.{most_bins};
 ghost use Rattle.verdict.specs.Test.{cost};
-ghost use Rattle.verdict.specs.Settings.{last_setting, closeness_of};
 ghost use Rattle.verdict.specs.Scratch.{Capped};
 ghost use Rattle.segmentation.specs.Joining.{line_reader, join_of, last_start, cheapest, next_among};
 ghost use Rattle.segmentation.specs.Held.{segments_held, join_found};
 ghost use Rattle.segmentation.specs.Runs.{Prepared, Within, RunInside, RunsInside, held_count, held_for, AllInside, NoneBefore, NoneAmong, RunBelow, join_by, where_below};
 
 use crate::{Join, Search, Segments};
-use logarithm::SHEET_SIZE;
-use verdict::capped_cost;
+use logarithm::Sheet;
+use verdict::{Closeness, capped_cost};
 
 impl Search {
     // How many of n segments a run of len may start with: on a ring any of them, on a line those that have len - 1 others behind them.
@@ -48,44 +46,44 @@ fn by_costs(i: usize, len: usize, rise: i64, fall: i64) -> Join
 
 // The cost of the stretch from bin i to bin j, where only a cost below the cap matters.
 fn stretch_cost(
-    sheet: &[u32; SHEET_SIZE],
+    sheet: &Sheet,
     h: &[u32],
     rising: bool,
-    setting: u32,
+    closeness: Closeness,
     i: usize,
     j: usize,
     cap: i64,
 ) -> i64
     requires within { Within h.now i j }
-    requires setting_le_last_setting { (setting ≤ last_setting) × (mag cap < 2 ^ 62) × (sheet.now ≡ log_sheet) }
-    ensures { Capped cap (cost (closeness_of setting) (direction rising) (part i j h.now)) result }
+    requires cap_bound { mag cap < 2 ^ 62 }
+    ensures { Capped cap (cost closeness (direction rising) (part i j h.now)) result }
 {
-    capped_cost(sheet, &h[i..j + 1], rising, setting, cap)
+    capped_cost(sheet, &h[i..j + 1], rising, closeness, cap)
 }
 
 impl<const N: usize> Segments<N> {
     // The run of len segments from segment i on, where only a cost below `least` matters.
     fn run(
         &self,
-        sheet: &[u32; SHEET_SIZE],
+        sheet: &Sheet,
         h: &[u32],
-        setting: u32,
+        closeness: Closeness,
         i: usize,
         len: usize,
         least: i64,
     ) -> Join
-        requires prepared { Prepared sheet.now setting self.now.separators self.now.peaks (i + len) }
+        requires prepared { Prepared self.now.separators self.now.peaks (i + len) }
         requires run_inside { RunInside h.now self.now.separators self.now.peaks i len }
         requires le_len { (1 ≤ len) × (mag least < 2 ^ 62) }
-        ensures { RunBelow least (join_of (closeness_of setting) (line_reader h.now) (segments_held self.now.separators self.now.peaks 0 (i + len)) i len) result }
+        ensures { RunBelow least (join_of closeness (line_reader h.now) (segments_held self.now.separators self.now.peaks 0 (i + len)) i len) result }
     {
         let first_peak = self.peaks[i] as usize;
         let end = self.separators[i + len] as usize;
         let start = self.separators[i] as usize;
         let last_peak = self.peaks[i + len - 1] as usize;
-        let fall = stretch_cost(sheet, h, false, setting, first_peak, end, least);
+        let fall = stretch_cost(sheet, h, false, closeness, first_peak, end, least);
         let cap = fall.min(least);
-        let rise = stretch_cost(sheet, h, true, setting, start, last_peak, cap);
+        let rise = stretch_cost(sheet, h, true, closeness, start, last_peak, cap);
         by_costs(i, len, rise, fall)
     }
 
@@ -93,17 +91,17 @@ impl<const N: usize> Segments<N> {
     // Those before the first start are known to cost 0 or more.
     fn cheapest_below(
         &self,
-        sheet: &[u32; SHEET_SIZE],
+        sheet: &Sheet,
         h: &[u32],
-        setting: u32,
+        closeness: Closeness,
         among: Search,
         len: usize,
     ) -> Option<Join>
-        requires prepared { Prepared sheet.now setting self.now.separators self.now.peaks (held_count among.round self.now.count) }
+        requires prepared { Prepared self.now.separators self.now.peaks (held_count among.round self.now.count) }
         requires runs_inside { RunsInside h.now self.now.separators self.now.peaks (suc (last_start among.round self.now.count len)) len }
-        requires none_before { NoneBefore (closeness_of setting) (line_reader h.now) (held_for among.round self.now) (suc among.known - len) len }
+        requires none_before { NoneBefore closeness (line_reader h.now) (held_for among.round self.now) (suc among.known - len) len }
         requires le_len { (2 ≤ len) × (len ≤ self.now.count) × (self.now.count ≤ most_bins) × (among.known ≤ self.now.count) }
-        ensures { join_found result ≡ where_below (cheapest (closeness_of setting) (line_reader h.now) (held_for among.round self.now) (last_start among.round self.now.count len) len) }
+        ensures { join_found result ≡ where_below (cheapest closeness (line_reader h.now) (held_for among.round self.now) (last_start among.round self.now.count len) len) }
     {
         let from = among.first_start(len);
         let end = among.start_count(self.count, len);
@@ -111,7 +109,7 @@ impl<const N: usize> Segments<N> {
         // What the cost of the next join has to be below.
         let mut least = 0;
         for i in from..end {
-            let next = self.run(sheet, h, setting, i, len, least);
+            let next = self.run(sheet, h, closeness, i, len, least);
             if next.cost < least {
                 least = next.cost;
                 best = Some(next);
@@ -123,19 +121,19 @@ impl<const N: usize> Segments<N> {
     // The next join that a search finds, of a line or round a ring, if there is one.
     pub fn next_join(
         &self,
-        sheet: &[u32; SHEET_SIZE],
+        sheet: &Sheet,
         h: &[u32],
-        setting: u32,
+        closeness: Closeness,
         among: Search,
     ) -> Option<Join>
-        requires prepared { Prepared sheet.now setting self.now.separators self.now.peaks (held_count among.round self.now.count) }
+        requires prepared { Prepared self.now.separators self.now.peaks (held_count among.round self.now.count) }
         requires all_inside { AllInside h.now self.now.separators self.now.peaks among.round self.now.count }
-        requires none_among { NoneAmong (closeness_of setting) (line_reader h.now) (held_for among.round self.now) among.known }
+        requires none_among { NoneAmong closeness (line_reader h.now) (held_for among.round self.now) among.known }
         requires le_count { (1 ≤ self.now.count) × (self.now.count ≤ most_bins) × (among.known ≤ self.now.count) }
-        ensures { join_found result ≡ next_among (closeness_of setting) (line_reader h.now) (held_for among.round self.now) among.round self.now.count }
+        ensures { join_found result ≡ next_among closeness (line_reader h.now) (held_for among.round self.now) among.round self.now.count }
     {
         for len in 2..self.count + 1 {
-            let best = self.cheapest_below(sheet, h, setting, among, len);
+            let best = self.cheapest_below(sheet, h, closeness, among, len);
             if best.is_some() {
                 return best;
             }

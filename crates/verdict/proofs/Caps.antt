@@ -18,8 +18,8 @@ use Rattle.pooling.specs.declared.Place.{Place}
 use Rattle.pooling.specs.Blocks.{Direction, blocks}
 use Rattle.pooling.specs.Limits.{Small}
 use Rattle.pooling.proofs.Laws.{blocks-cut}
-use Rattle.verdict.specs.Test.{fitted_mass, part_weight, largest_weight, bar, cost}
-use Rattle.verdict.specs.Settings.{last_setting, closeness_of}
+use Rattle.verdict.specs.Test.{Closeness, fitted_mass, part_weight, largest_weight, bar, cost}
+use Rattle.verdict.specs.Settings.{Offered}
 use Rattle.verdict.specs.declared.Best.{Best}
 use Rattle.verdict.specs.Near.{Spares, NearUpTo}
 use Rattle.verdict.specs.declared.parts.Turn.{Turn}
@@ -185,18 +185,18 @@ module _ (h : List ℕ) (bs : List Block) (limit : ℤ) where
         go true f = absurd (false≢true (sym e ∙ le-lt-ℤ (largest_weight h bs) r limit (best-ge f) f))
 
 -- ---- the cost
-pub capped-cost-is : (n : ℕ) (w : Direction) (h : List ℕ) (cap r : ℤ) → Small h → 1 ≤ length h → n ≤ last_setting
-    → BestOf h (blocks w h) (cap +ℤ bar (closeness_of n) (length h)) (Part h) r
-    → Capped cap (cost (closeness_of n) w h) (r -ℤ bar (closeness_of n) (length h))
+pub capped-cost-is : (e : Closeness) (w : Direction) (h : List ℕ) (cap r : ℤ) → Small h → 1 ≤ length h → Offered e
+    → BestOf h (blocks w h) (cap +ℤ bar e (length h)) (Part h) r
+    → Capped cap (cost e w h) (r -ℤ bar e (length h))
 unfolding cost
-capped-cost-is n w h cap r small some close best =
-    let height = bar (closeness_of n) (length h) in
+capped-cost-is e w h cap r small some offered best =
+    let height = bar e (length h) in
     let limit = cap +ℤ height in
     let largest = largest_weight h (blocks w h) in
     record {
       below = λ f. ap (λ (z : ℤ). z -ℤ height) (best-largest h (blocks w h) limit some r best (sym (less-any largest cap height) ∙ f));
       above = λ f. nlt-le-ℤ (r -ℤ height) cap (less-any r cap height ∙ best-reaches h (blocks w h) limit some r best (sym (less-any largest cap height) ∙ f));
-      small = less-size r height (2 ^ 62) (omega (arith, attained-small w h small r best.attained, bar-small n (length h) close some small.bins));
+      small = less-size r height (2 ^ 62) (omega (arith, attained-small w h small r best.attained, bar-small e (length h) offered some small.bins));
     }
 
 -- ---- the cap that stands for none: no cost reaches it
@@ -204,11 +204,11 @@ below-mag : (z : ℤ) (n : ℕ) → mag z < n → lt_z z (pos n) ≡ true
 below-mag (pos a) n l = lt-ltb a n l
 below-mag (negsuc a) n l = refl
 
-pub cost-below : (n : ℕ) (w : Direction) (h : List ℕ) → Small h → 1 ≤ length h → n ≤ last_setting → lt_z (cost (closeness_of n) w h) (pos (2 ^ 62 - 1)) ≡ true
+pub cost-below : (e : Closeness) (w : Direction) (h : List ℕ) → Small h → 1 ≤ length h → Offered e → lt_z (cost e w h) (pos (2 ^ 62 - 1)) ≡ true
 unfolding cost
-cost-below n w h small some close =
-    let b = bar (closeness_of n) (length h) in
+cost-below e w h small some offered =
+    let b = bar e (length h) in
     let z = largest_weight h (blocks w h) in
     let found = largest-part h (blocks w h) some in
     let part : Attained h (blocks w h) z = record { first = found.0; last = found.1; ends = (found.2, found.3); weight = found.4 } in
-    below-mag (z -ℤ b) (2 ^ 62 - 1) (less-size z b (2 ^ 62 - 1) (omega (arith, attained-small w h small z part, bar-small n (length h) close some small.bins)))
+    below-mag (z -ℤ b) (2 ^ 62 - 1) (less-size z b (2 ^ 62 - 1) (omega (arith, attained-small w h small z part, bar-small e (length h) offered some small.bins)))

@@ -1,4 +1,5 @@
 -- The figures in weights and in the bar are small. Assumes nothing.
+use mathlib.Core.Path.{subst}
 use Prim.Native.Nat.{ℕ, zero, suc, ◌+◌, ◌*◌, ◌-◌, ◌/◌, ◌^◌, ◌≤◌, ◌<◌}
 use native.Mathlib.Nat.{mul-le-mul_left, mul-le-mul, le_refl, zero-mul}
 use native.Mathlib.Omega.{arith}
@@ -9,11 +10,11 @@ use Rattle.logarithm.specs.Log.{Loggable, lg, units_per_bit, round_count}
 use Rattle.logarithm.proofs.Laws.{lg-below}
 use Rattle.pooling.specs.Limits.{most_bins, most_counts}
 use Rattle.verdict.specs.declared.Mass.{Mass}
-use Rattle.verdict.specs.Test.{least_closeness, most_closeness, weight, bar}
-use Rattle.verdict.specs.Settings.{settings_below, last_setting, closeness_of}
+use Rattle.verdict.specs.Test.{Closeness, least_closeness, most_closeness, weight, bar}
+use Rattle.verdict.specs.Settings.{settings_below, last_setting, Offered}
 use Rattle.verdict.specs.Exactness.{LogsDefined}
 use Rattle.verdict.proofs.Terms.{observed_log, expected_log, Ranged, loggable, counted, massed, remaining, parts-range}
-use Rattle.verdict.proofs.Settings.{bar-setting}
+use Rattle.verdict.proofs.Settings.{bar-setting, counted-from-least}
 
 -- room for finer units too
 pub units_small : units_per_bit ≤ 2 ^ 40
@@ -46,10 +47,13 @@ term-small n x v = mul-le-mul_left n (lg-small x v)
 pub raised-small : (s l : ℕ) → s ≤ last_setting → 1 ≤ l → l ≤ most_bins → lg (l * suc l / 2) + s * units_per_bit ≤ 2 ^ 46
 raised-small s l a b c = omega (arith, lg-small (l * suc l / 2) (parts-range l b c), setting-units s (setting-small a))
 
-pub bar-small : (s l : ℕ) → s ≤ last_setting → 1 ≤ l → l ≤ most_bins → mag (bar (closeness_of s) l) < 2 ^ 47
-bar-small s l a b c =
-    rw (bar-setting s l)
-    (difference_below (lg (l * suc l / 2) + s * units_per_bit) (settings_below * units_per_bit) (2 ^ 47) (omega (arith, raised-small s l a b c)) (omega (arith, below-units)))
+pub bar-small : (e : Closeness) (l : ℕ) → Offered e → 1 ≤ l → l ≤ most_bins → mag (bar e l) < 2 ^ 47
+bar-small e l o b c =
+    let f = counted-from-least e o in
+    let s = f.setting in
+    subst (λ (z : Closeness). mag (bar z l) < 2 ^ 47) f.back
+    (rw (bar-setting s l)
+    (difference_below (lg (l * suc l / 2) + s * units_per_bit) (settings_below * units_per_bit) (2 ^ 47) (omega (arith, raised-small s l f.within b c)) (omega (arith, below-units))))
 
 -- ---- a weight
 term-ranged : (f x : ℕ) → Ranged f x → f * lg x ≤ f * 2 ^ 45

@@ -1,4 +1,4 @@
--- The closeness as the code hands it on: unsigned, counted from the least one. No public promise cites it. Assumes nothing.
+-- The closenesses that a call takes, and how the code counts them for the bar: from the least one, so the count is unsigned. Assumes nothing.
 --   setting     0 for the least closeness, −10, up to 30 for the largest, 20
 use Rattle.std.specs.Prelude.{ℕ, nat_abs, ◌-ℤ◌, ◌≤ℤ◌}
 use Rattle.std.proofs.Math.IntN.{sub_ℕ}

@@ -1,17 +1,16 @@
 // The cost of a stretch, up to a cap.
 ghost use Rattle.std.specs.Prelude.{◌≡◌, ◌^◌, ◌≤◌, ◌<◌, length};
 ghost use Rattle.std.specs.Int.Signed.{mag};
-ghost use Rattle.logarithm.specs.Sheet.{log_sheet};
 ghost use Rattle.pooling.specs.Blocks.{direction, blocks};
 ghost use Rattle.pooling.specs.Limits.{Small};
 ghost use Rattle.verdict.specs.Test.{cost};
-ghost use Rattle.verdict.specs.Settings.{last_setting, closeness_of};
 ghost use Rattle.verdict.specs.Scratch.{Capped, BestOf, Part};
 
+use crate::Closeness;
 use crate::parts::{MOST_TOTALS, Stretch, running_totals};
 use crate::search::Search;
 use crate::weights::bar;
-use logarithm::SHEET_SIZE;
+use logarithm::Sheet;
 use pooling::{Block, MOST_BINS, Place, fit_places};
 
 // A cap that no cost reaches: 2^62 - 1.
@@ -24,9 +23,9 @@ const NO_PLACE: Place = Place {
 };
 
 // The best weight of the parts of a stretch, up to the limit. The whole stretch weighs 0; where that is enough, no fit is made.
-fn best_of<'a>(sheet: &'a [u32; SHEET_SIZE], h: &'a [u32], rising: bool, limit: i64) -> i64
+fn best_of<'a>(sheet: &'a Sheet, h: &'a [u32], rising: bool, limit: i64) -> i64
     requires small { Small h.now }
-    requires in_bounds { (1 ≤ length h.now) × (sheet.now ≡ log_sheet) }
+    requires in_bounds { 1 ≤ length h.now }
     ensures { BestOf h.now (blocks (direction rising) h.now) limit (Part h.now) result }
 {
     let whole_is_enough = limit <= 0;
@@ -51,28 +50,22 @@ fn best_of<'a>(sheet: &'a [u32; SHEET_SIZE], h: &'a [u32], rising: bool, limit: 
 }
 
 // The cost of a stretch of one bin or more, if that is below the cap; otherwise the cap or more.
-pub fn capped_cost(
-    sheet: &[u32; SHEET_SIZE],
-    h: &[u32],
-    rising: bool,
-    setting: u32,
-    cap: i64,
-) -> i64
+pub fn capped_cost(sheet: &Sheet, h: &[u32], rising: bool, closeness: Closeness, cap: i64) -> i64
     requires small { Small h.now }
-    requires in_bounds { (1 ≤ length h.now) × (setting ≤ last_setting) }
-    requires cap_bound { (mag cap < 2 ^ 62) × (sheet.now ≡ log_sheet) }
-    ensures { Capped cap (cost (closeness_of setting) (direction rising) h.now) result }
+    requires in_bounds { 1 ≤ length h.now }
+    requires cap_bound { mag cap < 2 ^ 62 }
+    ensures { Capped cap (cost closeness (direction rising) h.now) result }
 {
-    let height = bar(sheet, setting as u64, h.len() as u64);
+    let height = bar(sheet, closeness, h.len() as u64);
     best_of(sheet, h, rising, cap + height) - height
 }
 
 // The cost of a stretch of one bin or more.
-pub fn cost(h: &[u32], rising: bool, setting: u32) -> i64
+pub fn cost(h: &[u32], rising: bool, closeness: Closeness) -> i64
     requires small { Small h.now }
-    requires in_bounds { (1 ≤ length h.now) × (setting ≤ last_setting) }
-    ensures { result ≡ cost (closeness_of setting) (direction rising) h.now }
+    requires in_bounds { 1 ≤ length h.now }
+    ensures { result ≡ cost closeness (direction rising) h.now }
 {
-    let sheet = logarithm::copied_sheet();
-    capped_cost(&sheet, h, rising, setting, NO_CAP)
+    let sheet = Sheet::copied();
+    capped_cost(&sheet, h, rising, closeness, NO_CAP)
 }

@@ -1,8 +1,9 @@
 // The test of a stretch of bins: how far its parts are from a monotone fit, and whether that is too far.
-// `judge` gives the verdict of one stretch in one direction at one closeness, which it takes as a setting; `setting_of` gives that.
+// `judge` gives the verdict of one stretch in one direction at one closeness.
 #![tactic(auto)]
 
 mod against;
+mod closeness;
 mod costs;
 mod near;
 mod parts;
@@ -14,16 +15,11 @@ ghost use Rattle.std.specs.Prelude.{◌≡◌, ◌≤◌, length};
 ghost use Rattle.pooling.specs.Blocks.{direction};
 ghost use Rattle.pooling.specs.Limits.{Small};
 ghost use Rattle.verdict.specs.Test.{verdict_of};
-ghost use Rattle.verdict.specs.Settings.{last_setting, closeness_of, Offered};
 
 use against::step_against;
+pub use closeness::{Closeness, LEAST_CLOSENESS, MOST_CLOSENESS};
 pub use costs::capped_cost;
 use costs::cost;
-
-// The least and the largest closeness. One more closeness asks for one more bit of evidence before a stretch is rejected (rule T4).
-pub const LEAST_CLOSENESS: i32 = -10;
-
-pub const MOST_CLOSENESS: i32 = 20;
 
 // A part's fitted mass A/B (rules T1 and T2).
 #[derive(Clone, Copy)]
@@ -54,21 +50,13 @@ pub struct Verdict {
     pub rejected: bool,
 }
 
-// The setting of a closeness: settings count up from the least closeness, so the code hands on an unsigned number.
-pub fn setting_of(closeness: i32) -> u32
-    requires { Offered closeness }
-    ensures { (result ≤ last_setting) × (closeness_of result ≡ closeness) }
-{
-    (closeness - LEAST_CLOSENESS) as u32
-}
-
 // The verdict of a stretch of one bin or more. Without a step against the direction it is never rejected, whatever it costs.
-pub fn judge(h: &[u32], rising: bool, setting: u32) -> Verdict
+pub fn judge(h: &[u32], rising: bool, closeness: Closeness) -> Verdict
     requires small { Small h.now }
-    requires in_bounds { (1 ≤ length h.now) × (setting ≤ last_setting) }
-    ensures { result ≡ verdict_of (closeness_of setting) (direction rising) h.now }
+    requires in_bounds { 1 ≤ length h.now }
+    ensures { result ≡ verdict_of closeness (direction rising) h.now }
 {
-    let found = cost(h, rising, setting);
+    let found = cost(h, rising, closeness);
     Verdict {
         cost: found,
         rejected: step_against(h, rising) && 0 <= found,

@@ -2,7 +2,6 @@
 ghost use Rattle.std.specs.Prelude.{◌≡◌, cond, ◌≤◌, ◌<◌, length, ◌≤ℤ◌};
 ghost use Rattle.std.specs.Int.Signed.{lt_z};
 ghost use Rattle.lists.specs.Lists.{total};
-ghost use Rattle.logarithm.specs.Sheet.{log_sheet};
 ghost use Rattle.pooling.specs.Limits.{most_counts};
 ghost use Rattle.verdict.specs.Near.{Usable, Spares, Tried};
 ghost use Rattle.verdict.specs.Scratch.{EndingAt, Visits, Part};
@@ -12,7 +11,7 @@ use crate::near::{best_at, is_near};
 use crate::parts::{Stretch, Turn};
 use crate::weights::weight;
 use crate::{Best, Threshold};
-use logarithm::SHEET_SIZE;
+use logarithm::Sheet;
 
 // The better of the best weight so far and another.
 fn better(n: u64, best: Best, weight: i64) -> Best
@@ -47,10 +46,9 @@ fn first_far(s: &Stretch, turn: Turn, j: usize, first: usize, end: usize, t: Thr
 // A search of the parts of a stretch.
 #[derive(Drop)]
 pub struct Search<'a> {
-    pub sheet: &'a [u32; SHEET_SIZE],
+    pub sheet: &'a Sheet,
     pub stretch: Stretch<'a>,
     pub limit: i64,
-    ghost logs: { sheet.now ≡ log_sheet },
 }
 
 impl Search<'_> {

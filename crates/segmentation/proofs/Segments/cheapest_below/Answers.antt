@@ -1,6 +1,5 @@
 -- A run lower than the best so far takes its place; a run of the same cost does not. Assumes nothing.
 use Rattle.std.proofs.Common.{◌≡◌, suc, ◌∙◌, ap, arith}
-use Rattle.verdict.specs.Settings.{closeness_of}
 use Rattle.verdict.proofs.Machine.{handed-back}
 use Rattle.segmentation.specs.Joining.{line_reader, last_start}
 use Rattle.segmentation.specs.Held.{segments_held}
@@ -19,7 +18,7 @@ loop-i-preserved g c =
     let l = c.loop-i in
     let r = c.run-next in
     let fit = run-held a.among.round s.count a.len l.i c.requires.le_len.0 c.requires.le_len.1 (omega (arith, c.start_count-end.ensures)) in
-    let found = rw (same-run (closeness_of a.setting) a.h.now s.separators s.peaks (held_count a.among.round s.count) l.i a.len (omega arith) fit) at r.ensures in
+    let found = rw (same-run a.closeness a.h.now s.separators s.peaks (held_count a.among.round s.count) l.i a.len (omega arith) fit) at r.ensures in
     let exact = handed-back {z = r.result.cost} (omega (arith, r.ensures.small)) in
     elim c.if-next-least.branch [
       | then-next-least w ↦ rw (w.best-is, w.least-is, exact) (searched-taken _ l.i l.best _ r.result l.invariant found (rw (exact) at w.if-next-least.true))
@@ -33,5 +32,5 @@ returns g c =
     let all = segments_held s.separators s.peaks 0 (held_count a.among.round s.count) in
     let last = last_start a.among.round s.count a.len in
     let q : c.loop-i.i ≡ suc last = omega (arith, c.start_count-end.ensures, c.first_start-from.ensures, known-held a.among.round s.count a.among.known a.len c.requires.le_len.3 c.requires.le_len.0 c.requires.le_len.1) in
-    c.loop-i.invariant.same ∙ ap (so_far (run_from (closeness_of a.setting) a.h.now s.separators s.peaks a.among.round s.count a.len)) q
-    ∙ searched-to (closeness_of a.setting) (line_reader a.h.now) all last a.len
+    c.loop-i.invariant.same ∙ ap (so_far (run_from a.closeness a.h.now s.separators s.peaks a.among.round s.count a.len)) q
+    ∙ searched-to a.closeness (line_reader a.h.now) all last a.len

@@ -1,7 +1,6 @@
 -- What is found so far is the first of the lowest among the runs passed, where it is below 0. Assumes nothing.
-use Rattle.verdict.specs.Settings.{closeness_of}
 use Rattle.segmentation.proofs.Searching.{Searched, run_from}
 use Rattle.segmentation.proofs.Segments.cheapest_below.Given as goal
 
 abbrev pub invariant-loop-i : goal.invariant-loop-i
-invariant-loop-i g l = Searched (run_from (closeness_of l.setting) l.h l.self.separators l.self.peaks l.fn.among.round l.self.count l.len) l.i l.best l.least
+invariant-loop-i g l = Searched (run_from l.closeness l.h l.self.separators l.self.peaks l.fn.among.round l.self.count l.len) l.i l.best l.least

@@ -1,6 +1,5 @@
 -- Joining the first segments gives the modes. Assumes nothing.
 use Rattle.std.proofs.Common.{◌≤◌, length, sym, ap, ◌∙◌, arith, rules}
-use Rattle.verdict.specs.Settings.{closeness_of}
 use Rattle.segmentation.specs.Segments.{first_segments}
 use Rattle.segmentation.proofs.Holding.{held-length}
 use Rattle.segmentation.proofs.Applied.{line-held}
@@ -14,19 +13,18 @@ returns-then-self-lt2 g c =
     let f = c.first_segments in
     let t = f.new.self in
     let few : length (first_segments a.h.now) ≤ 1 = omega (arith, ap length f.ensures, held-length t.separators t.peaks 0 t.count) in
-    f.ensures ∙ sym (one_kept (closeness_of a.setting) a.h.now few)
+    f.ensures ∙ sym (one_kept a.closeness a.h.now few)
 
 pub join_all-requires : goal.join_all-requires
 join_all-requires g c =
     let a = c.args in
     let f = c.first_segments in
     let t = f.new.self in
-    let within = c.requires.in_bounds in
-    (search rules, first-on-line _ a.setting a.h.now t.separators t.peaks t.count c.copied_sheet-sheet.ensures within.1 c.requires.small within.0 (search rules) (search rules) f.ensures)
+    (search rules, first-on-line a.h.now t.separators t.peaks t.count c.requires.small c.requires.in_bounds (search rules) (search rules) f.ensures)
 
 pub returns : goal.returns
 returns g c =
     let a = c.args in
     let f = c.first_segments in
     let t = f.new.self in
-    c.join_all.ensures.all ∙ line-held (closeness_of a.setting) a.h.now t.separators t.peaks t.count f.ensures
+    c.join_all.ensures.all ∙ line-held a.closeness a.h.now t.separators t.peaks t.count f.ensures

@@ -1,6 +1,5 @@
 -- The first length that gives a join gives the next one. Assumes nothing.
 use Rattle.std.proofs.Common.{sym, ◌∙◌, arith}
-use Rattle.verdict.specs.Settings.{closeness_of}
 use Rattle.segmentation.specs.Joining.{line_reader}
 use Rattle.segmentation.specs.Held.{segments_held}
 use Rattle.segmentation.specs.Runs.{held_count}
@@ -11,7 +10,7 @@ pub loop-len-init : goal.loop-len-init
 loop-len-init g c =
     let a = c.args in
     let s = a.self.now in
-    from-two (closeness_of a.setting) (line_reader a.h.now) (segments_held s.separators s.peaks 0 (held_count a.among.round s.count)) a.among.round s.count
+    from-two a.closeness (line_reader a.h.now) (segments_held s.separators s.peaks 0 (held_count a.among.round s.count)) a.among.round s.count
 
 pub returns-then-is_some : goal.returns-then-is_some
 returns-then-is_some g c =

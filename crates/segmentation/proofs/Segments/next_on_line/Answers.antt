@@ -1,6 +1,5 @@
 -- The search goes through all runs of the line. Assumes nothing.
 use Rattle.std.proofs.Common.{false, sym, ap, ◌∙◌, arith, rules}
-use Rattle.verdict.specs.Settings.{closeness_of}
 use Rattle.segmentation.specs.Joining.{line_reader, next_among, next_join}
 use Rattle.segmentation.specs.Held.{segments_held}
 use Rattle.segmentation.proofs.Holding.{held-length}
@@ -13,7 +12,7 @@ next_join-requires g c =
     let a = c.args in
     let s = a.self.now in
     let on = c.requires in
-    let k = on-line-count a.sheet.now a.setting a.h.now s.separators s.peaks s.count on in (
+    let k = on-line-count a.h.now s.separators s.peaks s.count on in (
       search rules,
       (
         on.prepared,
@@ -30,5 +29,5 @@ returns g c =
     let a = c.args in
     let s = a.self.now in
     c.next_join.ensures
-    ∙ ap (next_among (closeness_of a.setting) (line_reader a.h.now) (segments_held s.separators s.peaks 0 s.count) false)
+    ∙ ap (next_among a.closeness (line_reader a.h.now) (segments_held s.separators s.peaks 0 s.count) false)
     (sym (held-length s.separators s.peaks 0 s.count))

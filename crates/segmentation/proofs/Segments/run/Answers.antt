@@ -2,7 +2,6 @@
 use Rattle.std.proofs.Common.{◌+◌, arith}
 use mir.Syntax.{w64}
 use mir.ValLaws.{to_z-of_z}
-use Rattle.verdict.specs.Settings.{closeness_of}
 use Rattle.verdict.proofs.Machine.{handed-back}
 use Rattle.segmentation.proofs.Searching.{run_is, choice, min-is}
 use Rattle.segmentation.proofs.Segments.run.Goals as goal
@@ -17,7 +16,7 @@ returns g c =
     let cf = rw least-is at fall.ensures in
     let cr = rw (handed-back c.min-cap.type_inv, c.min-cap.ensures.value, min-is, handed-back fall.type_inv, least-is) at rise.ensures in
     rw (
-      run_is (closeness_of a.setting) a.h.now s.separators s.peaks (a.i + a.len) a.i a.len c.requires.le_len.0 (omega arith),
+      run_is a.closeness a.h.now s.separators s.peaks (a.i + a.len) a.i a.len c.requires.le_len.0 (omega arith),
       c.by_costs.ensures,
       handed-back rise.type_inv,
       handed-back fall.type_inv,

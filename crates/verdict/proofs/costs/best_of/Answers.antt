@@ -9,7 +9,7 @@ use Rattle.verdict.proofs.costs.best_of.Goals as goal
 pub returns-then-whole_is_enough : goal.returns-then-whole_is_enough
 returns-then-whole_is_enough c =
     let bs = blocks (direction c.args.rising) c.args.h.now in
-    let w = whole-attained (direction c.args.rising) c.args.h.now c.requires.in_bounds.0 refl in
+    let w = whole-attained (direction c.args.rising) c.args.h.now c.requires.in_bounds refl in
     best-stops c.args.h.now bs c.args.limit (best_none c.args.h.now bs c.args.limit {visited = λ i j. ⊥} w (λ i j v. v)) (rw (to_z-of_z w64 c.args.limit c.ranges.limit) at c.if-whole_is_enough.true)
 
 pub invariant_of-search : goal.invariant_of-search

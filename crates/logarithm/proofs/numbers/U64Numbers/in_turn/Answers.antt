@@ -5,7 +5,7 @@ use Rattle.logarithm.proofs.numbers.U64Numbers.in_turn.Goals as goal
 pub read-requires : goal.read-requires
 read-requires c =
     rw c.take_apart.ensures
-    (c.requires.sheet, odd-some c.args.self c.requires.loggable, on-sheet-le c.args.self c.requires.some, twos-few c.args.self c.requires.loggable)
+    (odd-some c.args.self c.requires.loggable, on-sheet-le c.args.self c.requires.some, twos-few c.args.self c.requires.loggable)
 
 pub returns : goal.returns
 returns c = (rw c.take_apart.ensures at c.read.ensures) ∙ lg-odd c.args.self c.requires.loggable

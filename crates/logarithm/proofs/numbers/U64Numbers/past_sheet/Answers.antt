@@ -1,5 +1,3 @@
-use Rattle.std.proofs.Common.{◌∙◌, ap}
-use Rattle.std.specs.Prelude.{not, leb}
 use Rattle.logarithm.specs.Sheet.{on_sheet}
 use Rattle.logarithm.proofs.numbers.U64Numbers.past_sheet.Goals as goal
 

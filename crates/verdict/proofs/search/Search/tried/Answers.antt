@@ -19,7 +19,7 @@ weight-requires c =
     let small = s.held.small in
     let o = turn-ordered (direction s.rising) s.h.now s.places.now c.args.turn c.args.i c.args.j s.held.places c.requires.visits in
     rw (c.counts-n.ensures, c.part_counts-k.ensures, c.part_mass-m.ensures)
-    (small.counts, in-range (direction s.rising) s.h.now small.bins small.counts c.args.i c.args.j o c.requires.visits.0, c.args.self.now.logs)
+    (small.counts, in-range (direction s.rising) s.h.now small.bins small.counts c.args.i c.args.j o c.requires.visits.0)
 
 pub returns : goal.returns
 unfolding part_weight
