@@ -8,8 +8,8 @@ ghost use Rattle.segmentation.specs.Ring.{opening, ring_modes};
 
 use pooling::MOST_BINS;
 use segmentation::Segments;
-use verdict::Closeness;
 use turns::{lowest_bin, ring, write_turns};
+use verdict::Closeness;
 
 mod rounds;
 mod turns;

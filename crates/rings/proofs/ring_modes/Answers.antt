@@ -14,11 +14,11 @@ use Rattle.rings.proofs.ring_modes.Goals as goal
 turns-are : (h buffer : List ℕ) → 1 ≤ length h → take (length h + length h) (over (two_turns h) buffer) ≡ two_turns h
 turns-are h buffer one = over-front (two_turns h) buffer (length h + length h) (sym (turns-length h one))
 
-pub ring-requires-clause-in_bounds : goal.ring-requires-clause-in_bounds
-ring-requires-clause-in_bounds c =
+pub ring-requires : goal.ring-requires
+ring-requires c =
     let h = c.args.h.now in
     let p = c.requires.in_bounds in
-    (p.0, p.1, p.2, ap (take (length h + length h)) c.write_turns.ensures ∙ turns-are h _ (omega (arith, p)))
+    record { in_bounds = (p.0, p.1, p.2, ap (take (length h + length h)) c.write_turns.ensures ∙ turns-are h _ (omega (arith, p))) }
 
 pub slice_bounds-copy_from_slice-end : goal.slice_bounds-copy_from_slice-end
 slice_bounds-copy_from_slice-end c =
