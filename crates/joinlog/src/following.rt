@@ -1,7 +1,7 @@
 // A log from anywhere, followed join by join.
 ghost use Rattle.std.specs.Prelude.{◌≡◌, true};
 ghost use Rattle.segmentation.specs.Joining.{line_reader, line_joins, join_all};
-ghost use Rattle.segmentation.specs.Held.{segments_held};
+ghost use Rattle.segmentation.specs.Held.{held};
 ghost use Rattle.segmentation.specs.Runs.{OnLine};
 ghost use Rattle.joinlog.specs.JoinLog.{joins_made, log_of, same_numbers};
 
@@ -21,9 +21,8 @@ pub fn follow(
     log: &[i64],
 ) -> bool
     requires { OnLine h.now segments.old.separators segments.old.peaks segments.old.count }
-    ensures { (result ≡ same_numbers log.now (log_of (joins_made segments.old.count (line_joins closeness (line_reader h.now)) (segments_held segments.old.separators segments.old.peaks 0 segments.old.count))))
-        × (result ≡ true → segments_held segments.new.separators segments.new.peaks 0 segments.new.count
-        ≡ join_all segments.old.count (line_joins closeness (line_reader h.now)) (segments_held segments.old.separators segments.old.peaks 0 segments.old.count)) }
+    ensures { (result ≡ same_numbers log.now (log_of (joins_made segments.old.count (line_joins closeness (line_reader h.now)) (held segments.old))))
+        × (result ≡ true → held segments.new ≡ join_all segments.old.count (line_joins closeness (line_reader h.now)) (held segments.old)) }
 {
     let mut rest = log;
     while let Some(join) = segments.next_on_line(sheet, h, closeness) {

@@ -2,7 +2,7 @@
 ghost use Rattle.std.specs.Prelude.{◌≡◌, ◌*◌, ◌≤◌, length};
 ghost use Rattle.lists.specs.Lists.{over};
 ghost use Rattle.segmentation.specs.Joining.{line_reader, line_joins};
-ghost use Rattle.segmentation.specs.Held.{segments_held};
+ghost use Rattle.segmentation.specs.Held.{held};
 ghost use Rattle.segmentation.specs.Runs.{OnLine};
 ghost use Rattle.joinlog.specs.JoinLog.{joins_made, record_numbers, log_of};
 
@@ -22,8 +22,8 @@ pub fn write_joins(
     log: &mut [i64],
 ) -> usize
     requires { OnLine h.now segments.old.separators segments.old.peaks segments.old.count × (record_numbers * length h.now ≤ length log.old) }
-    ensures { (result ≡ length (joins_made segments.old.count (line_joins closeness (line_reader h.now)) (segments_held segments.old.separators segments.old.peaks 0 segments.old.count)))
-        × (log.new ≡ over (log_of (joins_made segments.old.count (line_joins closeness (line_reader h.now)) (segments_held segments.old.separators segments.old.peaks 0 segments.old.count))) log.old) }
+    ensures { (result ≡ length (joins_made segments.old.count (line_joins closeness (line_reader h.now)) (held segments.old)))
+        × (log.new ≡ over (log_of (joins_made segments.old.count (line_joins closeness (line_reader h.now)) (held segments.old))) log.old) }
 {
     let mut joins = 0;
     while let Some(join) = segments.next_on_line(sheet, h, closeness) {

@@ -2,7 +2,7 @@
 ghost use Rattle.std.specs.Prelude.{◌≡◌, ◌+◌, ◌≤◌, length};
 ghost use Rattle.lists.specs.Lists.{total, over};
 ghost use Rattle.pooling.specs.Limits.{most_ring_bins, most_ring_counts};
-ghost use Rattle.segmentation.specs.Held.{segments_held};
+ghost use Rattle.segmentation.specs.Held.{held};
 ghost use Rattle.segmentation.specs.Ring.{opening, two_turns, ring_modes};
 
 use crate::HELD_TWICE;
@@ -42,7 +42,7 @@ pub fn write_turns(h: &[u32], first: usize, round: &mut [u32])
 // The opened line, the first turn with the bin of the opening again at its end, is finished first. A single segment has nothing to join, and needs no sheet.
 pub fn ring(h: &[u32], round: &[u32], closeness: Closeness, modes: &mut Segments<HELD_TWICE>)
     requires in_bounds { (2 ≤ length h.now) × (length h.now ≤ most_ring_bins) × (total h.now ≤ most_ring_counts) × (round.now ≡ two_turns h.now) }
-    ensures { segments_held modes.new.separators modes.new.peaks 0 modes.new.count ≡ ring_modes closeness h.now }
+    ensures { held modes.new ≡ ring_modes closeness h.now }
 {
     let bins = h.len();
     let end = bins + 1;

@@ -27,9 +27,9 @@ module _ (e : Closeness) (read : Reader) (bins : ℕ) (s p : List ℕ) (n : ℕ)
       (v.two, omega (arith, v.all), omega (arith, v.starts))
 
   -- held twice over, they are joined to those that are left
-  made-is : (t q : List ℕ) (m : ℕ) → m ≡ n → segments_held t q 0 (n + n) ≡ twice bins modes → (left : List Segment) → left ≡ join_twice (segments_held t q 0 (m + m)) m j → left ≡ join_round bins modes j
+  made-is : (t q : List ℕ) (m : ℕ) → m ≡ n → segments_held t q 0 (m + m) ≡ twice bins modes → (left : List Segment) → left ≡ join_twice (segments_held t q 0 (m + m)) m j → left ≡ join_round bins modes j
   made-is t q m same again left made =
-      made ∙ joined-round (segments_held t q 0 (m + m)) m bins modes j (ap (λ (k : ℕ). segments_held t q 0 (k + k)) same ∙ again) (same ∙ sym (held-length s p 0 n))
+      made ∙ joined-round (segments_held t q 0 (m + m)) m bins modes j again (same ∙ sym (held-length s p 0 n))
 
   module _ (t q : List ℕ) (r : ℕ) (done : segments_held t q 0 r ≡ join_round bins modes j) where
     fewer : r < n
@@ -121,11 +121,10 @@ pub returns : goal.returns
 returns c =
     let a = c.args in
     let v = c.loop-join.modes in
-    let r = c.next_round.new.modes in
     let i = c.loop-join.invariant in
     let held = c.next_round.ensures.held in
     let none = sym c.next_round.ensures.next ∙ ap join_found c.in_default.is in (
-      ap (λ (k : ℕ). segments_held r.separators r.peaks 0 k) held.0 ∙ held.1
+      held.1
           ∙ sym (joins-none (ring_joins a.closeness (line_reader a.round.now) a.bins) v.count (segments_held v.separators v.peaks 0 v.count) none)
           ∙ i.same,
       omega (arith, held.0, i.fewer),
