@@ -45,7 +45,7 @@ impl Logarithm {
         let zeros = u64::leading_zeros(x);
         Logarithm {
             mantissa: x << (zeros - 32),
-            bits: (63 - zeros) as u64,
+            bits: u64::from(63 - zeros),
         }
     }
 
@@ -76,23 +76,25 @@ pub struct Odd {
     pub twos: u64,
 }
 
-// A number without its factors of 2, and how many there are.
-fn take_apart(x: u64) -> Odd
-    requires { Loggable x }
-    ensures { result ≡ record { odd = odd_part x; twos = twos_of x } }
-{
-    let zeros = u64::trailing_zeros(x);
-    Odd {
-        odd: x >> zeros,
-        twos: zeros as u64,
+impl Odd {
+    // A number without its factors of 2, and how many there are.
+    fn of(x: u64) -> Self
+        requires { Loggable x }
+        ensures { result ≡ record { odd = odd_part x; twos = twos_of x } }
+    {
+        let zeros = u64::trailing_zeros(x);
+        Odd {
+            odd: x >> zeros,
+            twos: u64::from(zeros),
+        }
     }
-}
 
-// The sheet has the odd part, so the logarithm need not be found by rounds.
-fn on_sheet(p: Odd) -> bool
-    ensures { result ≡ leb p.odd sheet_size }
-{
-    p.odd <= SHEET_SIZE as u64
+    // The sheet has the odd part, so the logarithm need not be found by rounds.
+    fn is_on_sheet(self) -> bool
+        ensures { result ≡ leb self.odd sheet_size }
+    {
+        self.odd <= SHEET_SIZE as u64
+    }
 }
 
 // The logarithms of numbers that the sheet has none of: their workers do their rounds side by side in one loop, so that while one waits for its last squaring, the

@@ -4,29 +4,34 @@ ghost use Rattle.logarithm.specs.Log.{Loggable, round_count, lg};
 ghost use Rattle.logarithm.specs.Sheet.{on_sheet};
 ghost use Rattle.logarithm.specs.Worker.{Ready, start, round, after};
 
-use crate::{Logarithm, Sheet, on_sheet, take_apart};
+use crate::{Logarithm, Odd, Sheet};
 
 pub trait Numbers: Copy {
     // The states of their workers between rounds.
     type Workers: Copy;
 
-    // All of them have logarithms (L1), the sheet has none of these (L5), and what they are.
+    // Each has a logarithm (L1).
     ghost loggable: { Self → Type 0 };
 
+    // The sheet gives the logarithm of none of them (L5).
     ghost past_sheet: { Self → Bool };
 
+    // The logarithm of each.
     ghost logs: { Self → Self };
 
-    // The workers after so many rounds, those that can do one more, one more round of each, and the bits that they have found.
+    // The workers after so many rounds (L3).
     ghost after: { ℕ → Self → Self.Workers };
 
+    // Each worker can do one more round.
     ghost ready: { Self.Workers → Type 0 };
 
+    // One more round of each.
     ghost rounded: { Self.Workers → Self.Workers };
 
+    // The bits that each has found.
     ghost found: { Self.Workers → Self };
 
-    // The sheet has none of the logarithms, so all have to be found by rounds.
+    // All have to be found by rounds.
     fn past_sheet(self) -> bool
         requires { loggable self }
         ensures { result ≡ past_sheet self };
@@ -37,7 +42,7 @@ pub trait Numbers: Copy {
         requires some { past_sheet self ≡ false }
         ensures { result ≡ logs self };
 
-    // The rounds can be done from here on, and find the logarithms.
+    // From here on the rounds can be done, and they find the logarithms.
     fn start(self) -> Self::Workers
         requires { loggable self }
         ensures begun { result ≡ after 0 self }
@@ -50,7 +55,6 @@ pub trait Numbers: Copy {
         requires { ready workers }
         ensures { result ≡ rounded workers };
 
-    // The bits that each has found.
     fn bits(workers: Self::Workers) -> Self
         ensures { result ≡ found workers };
 }
@@ -73,11 +77,11 @@ impl Numbers for u64 {
     ghost found = { λ s. s.bits };
 
     fn past_sheet(self) -> bool {
-        !on_sheet(take_apart(self))
+        !Odd::of(self).is_on_sheet()
     }
 
     fn in_turn(self, sheet: &Sheet) -> u64 {
-        sheet.read(take_apart(self))
+        sheet.read(Odd::of(self))
     }
 
     fn start(self) -> Logarithm {

@@ -4,4 +4,3 @@ pub mod Saturation
 pub mod NearRoot
 pub mod Hue
 pub mod Ranges
-pub mod Rooted

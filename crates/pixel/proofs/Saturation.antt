@@ -1,12 +1,11 @@
 -- The saturation bin from Q, by where the bins begin. Assumes nothing.
 use Prim.Native.Nat.{ℕ, ◌+◌, ◌*◌, ◌/◌, ◌≤◌, ◌<◌}
 use mathlib.Core.Path.{◌≡◌, sym}
-use mathlib.Core.Bool.{cond}
 use lib.Dec.{leb}
 use native.Mathlib.Omega.{arith}
 use native.Mathlib.Nat.{mul-le-mul}
-use borrow.Author.Tests.{leb-true, leb-false, le-leb}
-use Rattle.lists.proofs.Cases.{by_cond, by_order}
+use borrow.Author.Tests.{leb-true, le-leb}
+use Rattle.lists.proofs.Cases.{by_order}
 use Rattle.lists.proofs.LargestThat.{largest-that-unique}
 use Rattle.pixel.specs.Root.{RootWithin}
 use Rattle.pixel.specs.Colour.{saturation_of}
@@ -23,13 +22,6 @@ saturation-is q j s h l =
     largest-that-unique (λ (k : ℕ). leb (75 * (k * k)) (2 * q)) 41 j (omega arith) (le-leb (75 * (j * j)) (2 * q) h)
     (λ k e. omega (arith, begins-below k (j + 1) (2 * q) (leb-true (75 * (k * k)) (2 * q) e) l))
 
--- from the whole square root of 2Q/75, or the number 1 below it
-pub saturation-near : (q j : ℕ) → q ≤ 65025 → RootWithin 2 (2 * q / 75) j → cond (leb ((j + 1) * (j + 1)) (2 * q / 75)) (j + 1) j ≡ saturation_of q
-saturation-near q j s h =
-    by_cond (λ (m : ℕ). m ≡ saturation_of q) (leb ((j + 1) * (j + 1)) (2 * q / 75)) (j + 1) j
-    (λ e. sym (saturation-is q (j + 1) s (omega (arith, leb-true ((j + 1) * (j + 1)) (2 * q / 75) e)) (omega arith)))
-    (λ e. sym (saturation-is q j s (omega arith) (omega (arith, leb-false ((j + 1) * (j + 1)) (2 * q / 75) e))))
-
--- from the whole square root of 2Q/75 itself
+-- from the whole square root of 2Q/75
 pub saturation-root : (q j : ℕ) → q ≤ 65025 → RootWithin 1 (2 * q / 75) j → j ≡ saturation_of q
 saturation-root q j s h = sym (saturation-is q j s (omega (arith, h.low)) (omega (arith, h.high)))

@@ -1,4 +1,3 @@
-use Rattle.std.proofs.Common.{rules}
 use Rattle.pixel.specs.Colour.{intensity_bin}
 use Rattle.pixel.proofs.intensity_bin.Goals as goal
 

@@ -1,8 +1,7 @@
-use Rattle.std.proofs.Common.{◌*◌, ◌≤◌, arith}
+use Rattle.std.proofs.Common.{◌≤◌, arith}
 use Rattle.std.proofs.Math.Nat.{mul-le-mul}
 use Rattle.pixel.proofs.NearRoot.{near_root, near-root-within, line-le}
 use Rattle.pixel.proofs.near_root.Goals as goal
-
 
 pub overflow_mul-result : goal.overflow_mul-result
 overflow_mul-result c = omega (arith, mul-le-mul {n₁ = c.line_of-line.result.slope} {m₁ = c.args.x} {n₂ = 146} {m₂ = 1734} (rw c.line_of-line.ensures (line-le _).1) (omega arith))

@@ -6,4 +6,4 @@ pub overflow_sub-result : goal.overflow_sub-result
 overflow_sub-result c = omega (arith, zeros-range c.args.x c.requires)
 
 pub returns : goal.returns
-returns c = start-shift c.args.x c.requires
+returns c = rw c.from.ensures (start-shift c.args.x c.requires)

@@ -1,5 +1,6 @@
 -- The stretch is a part of the line. Assumes nothing.
-use Rattle.std.proofs.Common.{add-one, w64}
+use Rattle.std.proofs.Common.{add-one}
+use mir.Syntax.{w64}
 use mir.ValLaws.{to_z-of_z}
 use Rattle.lists.specs.Lists.{part}
 use Rattle.verdict.proofs.Machine.{handed-back}

@@ -4,8 +4,8 @@ use Rattle.logarithm.proofs.numbers.U64Numbers.in_turn.Goals as goal
 
 pub read-requires : goal.read-requires
 read-requires c =
-    rw c.take_apart.ensures
+    rw c.of.ensures
     (odd-some c.args.self c.requires.loggable, on-sheet-le c.args.self c.requires.some, twos-few c.args.self c.requires.loggable)
 
 pub returns : goal.returns
-returns c = (rw c.take_apart.ensures at c.read.ensures) ∙ lg-odd c.args.self c.requires.loggable
+returns c = (rw c.of.ensures at c.read.ensures) ∙ lg-odd c.args.self c.requires.loggable

@@ -3,4 +3,4 @@ use Rattle.logarithm.proofs.numbers.U64Numbers.past_sheet.Goals as goal
 
 pub returns : goal.returns
 unfolding on_sheet
-returns c = rw (c.on_sheet.ensures, c.take_apart.ensures)
+returns c = rw (c.is_on_sheet.ensures, c.of.ensures)
