@@ -10,7 +10,6 @@ use Rattle.segmentation.specs.Joining.{line_reader, joined, join, line_joins, li
 use Rattle.segmentation.proofs.Settled.{join-all-keeps, line-shortens}
 use Rattle.segmentation.proofs.FirstCut.{first-cut}
 use Rattle.segmentation.proofs.Applied.{cut-count}
-use Rattle.verdict.specs.Settings.{closeness_of}
 use Rattle.segmentation.specs.Held.{segments_held}
 use Rattle.segmentation.specs.Runs.{OnLine}
 use Rattle.segmentation.proofs.Holding.{held-length}
@@ -46,8 +45,8 @@ module _ (e : Closeness) (h : List ℕ) where
   line-made-below two = omega (arith, line-made-few, cut-count (first-cut h two))
 
 -- of segments that are held and cut a line fewer joins are made than it has bins
-pub held-made-few : (sheet : List ℕ) (setting : ℕ) (h s p : List ℕ) (n : ℕ) → OnLine sheet setting h s p n
-    → length (joins_made n (line_joins (closeness_of setting) (line_reader h)) (segments_held s p 0 n)) < length h
-held-made-few sheet setting h s p n on =
-    let drop = made-drop (line_joins (closeness_of setting) (line_reader h)) (line-shortens (closeness_of setting) (line_reader h)) n (segments_held s p 0 n) in
-    omega (arith, drop, held-length s p 0 n, on-line-count sheet setting h s p n on)
+pub held-made-few : (e : Closeness) (h s p : List ℕ) (n : ℕ) → OnLine h s p n
+    → length (joins_made n (line_joins e (line_reader h)) (segments_held s p 0 n)) < length h
+held-made-few e h s p n on =
+    let drop = made-drop (line_joins e (line_reader h)) (line-shortens e (line_reader h)) n (segments_held s p 0 n) in
+    omega (arith, drop, held-length s p 0 n, on-line-count h s p n on)

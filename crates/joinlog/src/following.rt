@@ -1,32 +1,31 @@
 // A log from anywhere, followed join by join.
 ghost use Rattle.std.specs.Prelude.{◌≡◌, true};
-ghost use Rattle.verdict.specs.Settings.{closeness_of};
 ghost use Rattle.segmentation.specs.Joining.{line_reader, line_joins, join_all};
-ghost use Rattle.segmentation.specs.Held.{segments_held};
+ghost use Rattle.segmentation.specs.Held.{held};
 ghost use Rattle.segmentation.specs.Runs.{OnLine};
 ghost use Rattle.joinlog.specs.JoinLog.{joins_made, log_of, same_numbers};
 
 use crate::RECORD_NUMBERS;
 use crate::records::record_of;
-use logarithm::SHEET_SIZE;
+use logarithm::Sheet;
 use pooling::MOST_BINS;
 use segmentation::Segments;
+use verdict::Closeness;
 
 // Follows a log: each record is held against the join that comes next, which is then made. Log and joins have to end together. Returns whether they did.
 pub fn follow(
     segments: &mut Segments<MOST_BINS>,
-    sheet: &[u32; SHEET_SIZE],
+    sheet: &Sheet,
     h: &[u32],
-    setting: u32,
+    closeness: Closeness,
     log: &[i64],
 ) -> bool
-    requires { OnLine sheet.now setting h.now segments.old.separators segments.old.peaks segments.old.count }
-    ensures { (result ≡ same_numbers log.now (log_of (joins_made segments.old.count (line_joins (closeness_of setting) (line_reader h.now)) (segments_held segments.old.separators segments.old.peaks 0 segments.old.count))))
-        × (result ≡ true → segments_held segments.new.separators segments.new.peaks 0 segments.new.count
-        ≡ join_all segments.old.count (line_joins (closeness_of setting) (line_reader h.now)) (segments_held segments.old.separators segments.old.peaks 0 segments.old.count)) }
+    requires { OnLine h.now segments.old.separators segments.old.peaks segments.old.count }
+    ensures { (result ≡ same_numbers log.now (log_of (joins_made segments.old.count (line_joins closeness (line_reader h.now)) (held segments.old))))
+        × (result ≡ true → held segments.new ≡ join_all segments.old.count (line_joins closeness (line_reader h.now)) (held segments.old)) }
 {
     let mut rest = log;
-    while let Some(join) = segments.next_on_line(sheet, h, setting) {
+    while let Some(join) = segments.next_on_line(sheet, h, closeness) {
         let numbers: [i64; RECORD_NUMBERS] = record_of(join).into();
         let Some(behind) = rest.strip_prefix(&numbers) else {
             return false;

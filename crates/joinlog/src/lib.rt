@@ -4,14 +4,14 @@
 ghost use Rattle.std.specs.Prelude.{◌≡◌, cond, ◌*◌, ◌≤◌, length, Some, None};
 ghost use Rattle.lists.specs.Lists.{over};
 ghost use Rattle.pooling.specs.Limits.{Small};
-ghost use Rattle.verdict.specs.Settings.{last_setting, closeness_of};
 ghost use Rattle.segmentation.specs.Joining.{line_separators};
 ghost use Rattle.joinlog.specs.JoinLog.{record_numbers, made_on_line, line_log, same_numbers};
 
 use following::follow;
-use logarithm::copied_sheet;
+use logarithm::Sheet;
 use pooling::MOST_BINS;
 use segmentation::Segments;
+use verdict::Closeness;
 use writing::write_joins;
 
 mod following;
@@ -33,31 +33,31 @@ pub struct JoinRecord {
 }
 
 // Writes the log of a line into the first places of a list. Returns how many joins there are.
-pub fn line_log(h: &[u32], setting: u32, log: &mut [i64]) -> u32
+pub fn line_log(h: &[u32], closeness: Closeness, log: &mut [i64]) -> u32
     requires small { Small h.now }
-    requires in_bounds { (2 ≤ length h.now) × (setting ≤ last_setting) × (record_numbers * length h.now ≤ length log.old) }
-    ensures { (result ≡ length (made_on_line (closeness_of setting) h.now))
-        × (log.new ≡ over (line_log (closeness_of setting) h.now) log.old) }
+    requires in_bounds { (2 ≤ length h.now) × (record_numbers * length h.now ≤ length log.old) }
+    ensures { (result ≡ length (made_on_line closeness h.now))
+        × (log.new ≡ over (line_log closeness h.now) log.old) }
 {
     let mut segments = Segments::<MOST_BINS>::new();
     segments.first_segments(h);
-    let sheet = copied_sheet();
-    let joins = write_joins(&mut segments, &sheet, h, setting, log);
+    let sheet = Sheet::copied();
+    let joins = write_joins(&mut segments, &sheet, h, closeness, log);
     joins as u32
 }
 
 // Follows a log from the first segments of a line on. If it leads to the modes, writes their separators into the first places of the list and returns how many
 // they are; any other log leaves the list as it is.
-pub fn replay(h: &[u32], setting: u32, log: &[i64], list: &mut [u32]) -> Option<u32>
+pub fn replay(h: &[u32], closeness: Closeness, log: &[i64], list: &mut [u32]) -> Option<u32>
     requires small { Small h.now }
-    requires in_bounds { (2 ≤ length h.now) × (setting ≤ last_setting) × (length h.now ≤ length list.old) }
-    ensures followed { result ≡ cond (same_numbers log.now (line_log (closeness_of setting) h.now)) (Some (length (line_separators (closeness_of setting) h.now))) None }
-    ensures list { list.new ≡ cond (same_numbers log.now (line_log (closeness_of setting) h.now)) (over (line_separators (closeness_of setting) h.now) list.old) list.old }
+    requires in_bounds { (2 ≤ length h.now) × (length h.now ≤ length list.old) }
+    ensures followed { result ≡ cond (same_numbers log.now (line_log closeness h.now)) (Some (length (line_separators closeness h.now))) None }
+    ensures list { list.new ≡ cond (same_numbers log.now (line_log closeness h.now)) (over (line_separators closeness h.now) list.old) list.old }
 {
     let mut segments = Segments::<MOST_BINS>::new();
     segments.first_segments(h);
-    let sheet = copied_sheet();
-    if !follow(&mut segments, &sheet, h, setting, log) {
+    let sheet = Sheet::copied();
+    if !follow(&mut segments, &sheet, h, closeness, log) {
         return None;
     }
     let count = segments.count + 1;

@@ -6,12 +6,12 @@
 ghost use Rattle.std.specs.Prelude.{◌≡◌, ◌+◌, ◌%◌, ◌≤◌, ◌<◌, length};
 ghost use Rattle.lists.specs.Lists.{total, first_index, over};
 ghost use Rattle.pooling.specs.Limits.{most_ring_bins, most_ring_counts};
-ghost use Rattle.verdict.specs.Settings.{last_setting, closeness_of};
 ghost use Rattle.listing.specs.Listing.{ring_separators};
 ghost use Rattle.listing.specs.Numbers.{past_last, bins_from};
 
 use ring::Ring;
 use rings::{MOST_RING_BINS, ring_modes};
+use verdict::Closeness;
 
 mod ring;
 
@@ -45,14 +45,14 @@ fn write_numbers(places: &[u32], from: usize, ring: Ring, list: &mut [u32])
 }
 
 // Writes the separators of a ring, from the lowest bin number up. Returns how many there are.
-pub fn ring_separators(h: &[u32], setting: u32, list: &mut [u32]) -> u32
+pub fn ring_separators(h: &[u32], closeness: Closeness, list: &mut [u32]) -> u32
     requires in_bounds { (2 ≤ length h.now) × (length h.now ≤ most_ring_bins) × (total h.now ≤ most_ring_counts) }
-    requires setting_le_last_setting { (setting ≤ last_setting) × (length h.now ≤ length list.old) }
-    ensures { (result ≡ length (ring_separators (closeness_of setting) h.now))
-        × (list.new ≡ over (ring_separators (closeness_of setting) h.now) list.old) }
+    requires h_in_bounds { length h.now ≤ length list.old }
+    ensures { (result ≡ length (ring_separators closeness h.now))
+        × (list.new ≡ over (ring_separators closeness h.now) list.old) }
 {
     let mut places = [0u32; MOST_RING_BINS];
-    let found = ring_modes(h, setting, &mut places);
+    let found = ring_modes(h, closeness, &mut places);
     let starts = &places[..found.modes];
     let ring = Ring {
         opening: found.opening,

@@ -6,12 +6,12 @@ use Rattle.segmentation.specs.Held.{segments_held}
 use Rattle.segmentation.specs.Runs.{Prepared, OnRing}
 
 -- two turns of a ring of `bins` bins, and two lists that hold its n modes, with room for them twice over
-pub record RingHeld (sheet : List ℕ) (setting : ℕ) (round separators peaks : List ℕ) (n bins : ℕ) : Type 0 where
+pub record RingHeld (round separators peaks : List ℕ) (n bins : ℕ) : Type 0 where
   pub turn : List ℕ
   pub turns : round ≡ turn ++ turn
   pub as_long : length turn ≡ bins
   pub limits : (bins ≤ most_ring_bins) × (total turn ≤ most_ring_counts)
-  pub prepared : Prepared sheet setting separators peaks (n + n)
+  pub prepared : Prepared separators peaks (n + n)
   pub on_ring : OnRing bins turn (segments_held separators peaks 0 n)
 
 -- the n members from number `from` on are no larger than a bound

@@ -4,12 +4,12 @@
 ghost use Rattle.std.specs.Prelude.{◌≡◌, map, ◌≤◌, length};
 ghost use Rattle.lists.specs.Lists.{total, over};
 ghost use Rattle.pooling.specs.Limits.{most_ring_bins, most_ring_counts};
-ghost use Rattle.verdict.specs.Settings.{last_setting, closeness_of};
 ghost use Rattle.segmentation.specs.Ring.{opening, ring_modes};
 
 use pooling::MOST_BINS;
 use segmentation::Segments;
 use turns::{lowest_bin, ring, write_turns};
+use verdict::Closeness;
 
 mod rounds;
 mod turns;
@@ -29,17 +29,17 @@ pub struct Opened {
 }
 
 // Writes where the modes of a ring start, by places from its opening on. Returns the opening, and how many modes there are.
-pub fn ring_modes(h: &[u32], setting: u32, places: &mut [u32]) -> Opened
+pub fn ring_modes(h: &[u32], closeness: Closeness, places: &mut [u32]) -> Opened
     requires in_bounds { (2 ≤ length h.now) × (length h.now ≤ most_ring_bins) × (total h.now ≤ most_ring_counts) }
-    requires setting_le_last_setting { (setting ≤ last_setting) × (length h.now ≤ length places.old) }
-    ensures { (result.opening ≡ opening h.now) × (result.modes ≡ length (ring_modes (closeness_of setting) h.now))
-        × (places.new ≡ over (map (λ s. s.start) (ring_modes (closeness_of setting) h.now)) places.old) }
+    requires h_in_bounds { length h.now ≤ length places.old }
+    ensures { (result.opening ≡ opening h.now) × (result.modes ≡ length (ring_modes closeness h.now))
+        × (places.new ≡ over (map (λ s. s.start) (ring_modes closeness h.now)) places.old) }
 {
     let mut round = [0u32; TWO_TURNS];
     let mut modes = Segments::<HELD_TWICE>::new();
     let opening = lowest_bin(h);
     write_turns(h, opening, &mut round);
-    ring(h, &round[..h.len() + h.len()], setting, &mut modes);
+    ring(h, &round[..h.len() + h.len()], closeness, &mut modes);
     let n = modes.count;
     places[..n].copy_from_slice(&modes.separators[..n]);
     Opened { opening, modes: n }

@@ -1,16 +1,16 @@
 // Joins all round a ring. Its modes are held by places from the opening on, and for a search twice over: a place a turn later is the same bin.
-ghost use Rattle.std.specs.Prelude.{◌≡◌, ◌+◌, ◌-◌, ◌≤◌, ◌<◌, length};
+ghost use Rattle.std.specs.Prelude.{◌≡◌, ◌+◌, ◌-◌, ◌≤◌, ◌<◌, true, length};
 ghost use Rattle.pooling.specs.Limits.{most_bins};
-ghost use Rattle.verdict.specs.Settings.{closeness_of};
 ghost use Rattle.segmentation.specs.Joining.{line_reader, join_all};
 ghost use Rattle.segmentation.specs.Around.{twice, next_round, join_twice, ring_joins};
-ghost use Rattle.segmentation.specs.Held.{segments_held, join_found};
-ghost use Rattle.segmentation.specs.Runs.{NoneAmong};
+ghost use Rattle.segmentation.specs.Held.{held, join_found};
+ghost use Rattle.segmentation.specs.Runs.{held_for, NoneAmong};
 ghost use Rattle.rings.specs.Twice.{RingHeld, EachTo, Repeated};
 
 use crate::HELD_TWICE;
-use logarithm::SHEET_SIZE;
+use logarithm::Sheet;
 use segmentation::{Join, Search, Segments};
+use verdict::Closeness;
 
 // Writes the n members from place `from` on again behind them, `by` more each.
 fn repeat(a: &mut [u32], from: usize, n: usize, by: usize)
@@ -26,7 +26,7 @@ fn repeat(a: &mut [u32], from: usize, n: usize, by: usize)
 // If the run goes past the last mode, the turn that begins behind it is first moved to the front.
 fn apply_round(modes: &mut Segments<HELD_TWICE>, j: Join)
     requires { (2 ≤ j.len) × (j.len ≤ modes.old.count) × (j.first < modes.old.count) × (modes.old.count < most_bins) }
-    ensures { (segments_held modes.new.separators modes.new.peaks 0 modes.new.count ≡ join_twice (segments_held modes.old.separators modes.old.peaks 0 (modes.old.count + modes.old.count)) modes.old.count j)
+    ensures { (held modes.new ≡ join_twice (held_for true modes.old) modes.old.count j)
         × (modes.new.count ≡ modes.old.count - (j.len - 1)) }
 {
     let n = modes.count;
@@ -43,24 +43,23 @@ fn apply_round(modes: &mut Segments<HELD_TWICE>, j: Join)
 // this is one step of joining. No run of the first `known` modes is joinable.
 fn next_round(
     modes: &mut Segments<HELD_TWICE>,
-    sheet: &[u32; SHEET_SIZE],
+    sheet: &Sheet,
     round: &[u32],
-    setting: u32,
+    closeness: Closeness,
     bins: usize,
     known: usize,
 ) -> Option<Join>
-    requires ring_held { RingHeld sheet.now setting round.now modes.old.separators modes.old.peaks modes.old.count bins }
-    requires none_among { NoneAmong (closeness_of setting) (line_reader round.now) (segments_held modes.old.separators modes.old.peaks 0 modes.old.count) known × (known ≤ modes.old.count) }
-    ensures next { join_found result ≡ next_round (closeness_of setting) (line_reader round.now) bins (segments_held modes.old.separators modes.old.peaks 0 modes.old.count) }
-    ensures held { (modes.new.count ≡ modes.old.count)
-        × (segments_held modes.new.separators modes.new.peaks 0 modes.old.count ≡ segments_held modes.old.separators modes.old.peaks 0 modes.old.count) }
-    ensures again { segments_held modes.new.separators modes.new.peaks 0 (modes.old.count + modes.old.count) ≡ twice bins (segments_held modes.old.separators modes.old.peaks 0 modes.old.count) }
+    requires ring_held { RingHeld round.now modes.old.separators modes.old.peaks modes.old.count bins }
+    requires none_among { NoneAmong closeness (line_reader round.now) (held modes.old) known × (known ≤ modes.old.count) }
+    ensures next { join_found result ≡ next_round closeness (line_reader round.now) bins (held modes.old) }
+    ensures held { (modes.new.count ≡ modes.old.count) × (held modes.new ≡ held modes.old) }
+    ensures again { held_for true modes.new ≡ twice bins (held modes.old) }
 {
     let n = modes.count;
     repeat(&mut modes.separators, 1, n, bins);
     repeat(&mut modes.peaks, 0, n, bins);
     let all = Search { round: true, known };
-    modes.next_join(sheet, round, setting, all)
+    modes.next_join(sheet, round, closeness, all)
 }
 
 // Joins the modes of a finished line until no run is joinable anywhere round its ring.
@@ -68,19 +67,18 @@ fn next_round(
 // of them alone is joinable. So each join has the last mode in it, and only runs that have it are looked at.
 pub fn join_round(
     modes: &mut Segments<HELD_TWICE>,
-    sheet: &[u32; SHEET_SIZE],
+    sheet: &Sheet,
     round: &[u32],
-    setting: u32,
+    closeness: Closeness,
     bins: usize,
 )
-    requires ring_held { RingHeld sheet.now setting round.now modes.old.separators modes.old.peaks modes.old.count bins }
-    requires none_among { NoneAmong (closeness_of setting) (line_reader round.now) (segments_held modes.old.separators modes.old.peaks 0 modes.old.count) modes.old.count }
-    ensures { (segments_held modes.new.separators modes.new.peaks 0 modes.new.count
-        ≡ join_all modes.old.count (ring_joins (closeness_of setting) (line_reader round.now) bins) (segments_held modes.old.separators modes.old.peaks 0 modes.old.count))
+    requires ring_held { RingHeld round.now modes.old.separators modes.old.peaks modes.old.count bins }
+    requires none_among { NoneAmong closeness (line_reader round.now) (held modes.old) modes.old.count }
+    ensures { (held modes.new ≡ join_all modes.old.count (ring_joins closeness (line_reader round.now) bins) (held modes.old))
         × (modes.new.count ≤ modes.old.count) }
 {
     let mut known = modes.count;
-    while let Some(join) = next_round(modes, sheet, round, setting, bins, known) {
+    while let Some(join) = next_round(modes, sheet, round, closeness, bins, known) {
         apply_round(modes, join);
         known = modes.count - 1;
     }

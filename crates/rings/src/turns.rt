@@ -2,14 +2,14 @@
 ghost use Rattle.std.specs.Prelude.{◌≡◌, ◌+◌, ◌≤◌, length};
 ghost use Rattle.lists.specs.Lists.{total, over};
 ghost use Rattle.pooling.specs.Limits.{most_ring_bins, most_ring_counts};
-ghost use Rattle.verdict.specs.Settings.{last_setting, closeness_of};
-ghost use Rattle.segmentation.specs.Held.{segments_held};
+ghost use Rattle.segmentation.specs.Held.{held};
 ghost use Rattle.segmentation.specs.Ring.{opening, two_turns, ring_modes};
 
 use crate::HELD_TWICE;
 use crate::rounds::join_round;
-use logarithm::copied_sheet;
+use logarithm::Sheet;
 use segmentation::Segments;
+use verdict::Closeness;
 
 // The lowest bin; of several, the one with the lowest number.
 pub fn lowest_bin(h: &[u32]) -> usize
@@ -40,10 +40,9 @@ pub fn write_turns(h: &[u32], first: usize, round: &mut [u32])
 
 // Finds the modes of the ring h, of which `round` has two turns from the opening on.
 // The opened line, the first turn with the bin of the opening again at its end, is finished first. A single segment has nothing to join, and needs no sheet.
-pub fn ring(h: &[u32], round: &[u32], setting: u32, modes: &mut Segments<HELD_TWICE>)
+pub fn ring(h: &[u32], round: &[u32], closeness: Closeness, modes: &mut Segments<HELD_TWICE>)
     requires in_bounds { (2 ≤ length h.now) × (length h.now ≤ most_ring_bins) × (total h.now ≤ most_ring_counts) × (round.now ≡ two_turns h.now) }
-    requires setting_le_last_setting { setting ≤ last_setting }
-    ensures { segments_held modes.new.separators modes.new.peaks 0 modes.new.count ≡ ring_modes (closeness_of setting) h.now }
+    ensures { held modes.new ≡ ring_modes closeness h.now }
 {
     let bins = h.len();
     let end = bins + 1;
@@ -51,7 +50,7 @@ pub fn ring(h: &[u32], round: &[u32], setting: u32, modes: &mut Segments<HELD_TW
     if modes.count < 2 {
         return;
     }
-    let sheet = copied_sheet();
-    modes.join_all(&sheet, &round[..end], setting);
-    join_round(modes, &sheet, round, setting, bins);
+    let sheet = Sheet::copied();
+    modes.join_all(&sheet, &round[..end], closeness);
+    join_round(modes, &sheet, round, closeness, bins);
 }

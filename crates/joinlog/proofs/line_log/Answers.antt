@@ -2,7 +2,6 @@
 use Rattle.std.proofs.Common.{ℕ, ◌≡◌, List, length, ap, ◌∙◌, arith}
 use Rattle.lists.specs.Lists.{over}
 use Rattle.verdict.specs.Test.{Closeness}
-use Rattle.verdict.specs.Settings.{closeness_of}
 use Rattle.segmentation.specs.declared.Join.{Join}
 use Rattle.segmentation.specs.Segments.{first_segments}
 use Rattle.segmentation.specs.Joining.{line_reader, line_joins}
@@ -18,8 +17,8 @@ write_joins-joins-requires c =
     let a = c.args in
     let t = c.first_segments.new.self in
     let in_bounds = c.requires.in_bounds in (
-      first-on-line _ a.setting a.h.now t.separators t.peaks t.count c.copied_sheet-sheet.ensures in_bounds.1 c.requires.small in_bounds.0 (omega (arith, t.room, c.requires.small.bins)) (omega (arith, t.room, c.requires.small.bins)) c.first_segments.ensures,
-      in_bounds.2,
+      first-on-line a.h.now t.separators t.peaks t.count c.requires.small in_bounds.0 (omega (arith, t.room, c.requires.small.bins)) (omega (arith, t.room, c.requires.small.bins)) c.first_segments.ensures,
+      in_bounds.1,
     )
 
 -- the joins of the first segments that are held
@@ -30,13 +29,13 @@ made-is e h s p n held = made_held (line_joins e (line_reader h)) s p n (first_s
 pub overflow_cast-result : goal.overflow_cast-result
 overflow_cast-result c =
     let t = c.first_segments.new.self in
-    let few = line-made-below (closeness_of c.args.setting) c.args.h.now c.requires.in_bounds.0 in
-    record { fits = omega (arith, c.write_joins-joins.ensures.0, ap length (made-is (closeness_of c.args.setting) c.args.h.now t.separators t.peaks t.count c.first_segments.ensures), few, c.requires.small.bins) }
+    let few = line-made-below c.args.closeness c.args.h.now c.requires.in_bounds.0 in
+    record { fits = omega (arith, c.write_joins-joins.ensures.0, ap length (made-is c.args.closeness c.args.h.now t.separators t.peaks t.count c.first_segments.ensures), few, c.requires.small.bins) }
 
 pub returns : goal.returns
 unfolding line_log
 returns c =
     let t = c.first_segments.new.self in
-    let made = made-is (closeness_of c.args.setting) c.args.h.now t.separators t.peaks t.count c.first_segments.ensures in
+    let made = made-is c.args.closeness c.args.h.now t.separators t.peaks t.count c.first_segments.ensures in
     let m = c.write_joins-joins.ensures in
     (m.0 ∙ ap length made, m.1 ∙ ap (λ (js : List Join). over (log_of js) c.args.log.now) made)

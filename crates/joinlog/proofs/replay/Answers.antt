@@ -3,7 +3,6 @@ use Rattle.std.proofs.Common.{ℕ, ℤ, refl, ◌≡◌, ◌+◌, List, ◌++◌
 use Rattle.std.proofs.Math.Seq.{length-take-le}
 use Rattle.lists.specs.Lists.{over}
 use Rattle.verdict.specs.Test.{Closeness}
-use Rattle.verdict.specs.Settings.{closeness_of}
 use Rattle.segmentation.specs.declared.Join.{Join}
 use Rattle.segmentation.specs.Segments.{first_segments}
 use Rattle.segmentation.specs.Joining.{line_reader, Joins, line_joins, join_all, line_modes}
@@ -34,24 +33,24 @@ follow-requires c =
     let a = c.args in
     let t = c.first_segments.new.self in
     let in_bounds = c.requires.in_bounds in
-    first-on-line _ a.setting a.h.now t.separators t.peaks t.count c.copied_sheet-sheet.ensures in_bounds.1 c.requires.small in_bounds.0 (omega (arith, t.room, c.requires.small.bins)) (omega (arith, t.room, c.requires.small.bins)) c.first_segments.ensures
+    first-on-line a.h.now t.separators t.peaks t.count c.requires.small in_bounds.0 (omega (arith, t.room, c.requires.small.bins)) (omega (arith, t.room, c.requires.small.bins)) c.first_segments.ensures
 
 pub returns-then-not-follow-clause-followed : goal.returns-then-not-follow-clause-followed
 returns-then-not-follow-clause-followed c =
     let a = c.args in
     let f = c.first_segments.new.self in
-    rw (same-is (closeness_of a.setting) a.h.now f.separators f.peaks f.count c.first_segments.ensures a.log.now, ← c.follow.ensures.0, c.if-not-follow.true) refl
+    rw (same-is a.closeness a.h.now f.separators f.peaks f.count c.first_segments.ensures a.log.now, ← c.follow.ensures.0, c.if-not-follow.true) refl
 
 pub returns-then-not-follow-clause-list : goal.returns-then-not-follow-clause-list
 returns-then-not-follow-clause-list c =
     let a = c.args in
     let f = c.first_segments.new.self in
-    rw (same-is (closeness_of a.setting) a.h.now f.separators f.peaks f.count c.first_segments.ensures a.log.now, ← c.follow.ensures.0, c.if-not-follow.true) refl
+    rw (same-is a.closeness a.h.now f.separators f.peaks f.count c.first_segments.ensures a.log.now, ← c.follow.ensures.0, c.if-not-follow.true) refl
 
 pub slice_bounds-copy_from_slice-end : goal.slice_bounds-copy_from_slice-end
 slice_bounds-copy_from_slice-end c =
     let a = c.args in
-    let e = closeness_of a.setting in
+    let e = a.closeness in
     let f = c.first_segments.new.self in
     let t = c.follow.new.segments in
     let held = modes e a.h.now f.separators f.peaks f.count c.first_segments.ensures t.separators t.peaks t.count (c.follow.ensures.1 c.if-not-follow.false) in
@@ -60,7 +59,7 @@ slice_bounds-copy_from_slice-end c =
 pub slice_bounds-copy_from_slice-end-2 : goal.slice_bounds-copy_from_slice-end-2
 slice_bounds-copy_from_slice-end-2 c =
     let a = c.args in
-    let e = closeness_of a.setting in
+    let e = a.closeness in
     let f = c.first_segments.new.self in
     let t = c.follow.new.segments in
     let held = modes e a.h.now f.separators f.peaks f.count c.first_segments.ensures t.separators t.peaks t.count (c.follow.ensures.1 c.if-not-follow.false) in
@@ -70,7 +69,7 @@ slice_bounds-copy_from_slice-end-2 c =
 pub copy_from_slice-requires : goal.copy_from_slice-requires
 copy_from_slice-requires c =
     let a = c.args in
-    let e = closeness_of a.setting in
+    let e = a.closeness in
     let f = c.first_segments.new.self in
     let t = c.follow.new.segments in
     let held = modes e a.h.now f.separators f.peaks f.count c.first_segments.ensures t.separators t.peaks t.count (c.follow.ensures.1 c.if-not-follow.false) in
@@ -80,7 +79,7 @@ copy_from_slice-requires c =
 pub returns-clause-followed : goal.returns-clause-followed
 returns-clause-followed c =
     let a = c.args in
-    let e = closeness_of a.setting in
+    let e = a.closeness in
     let f = c.first_segments.new.self in
     let t = c.follow.new.segments in
     let held = modes e a.h.now f.separators f.peaks f.count c.first_segments.ensures t.separators t.peaks t.count (c.follow.ensures.1 c.if-not-follow.false) in
@@ -91,7 +90,7 @@ pub returns-clause-list : goal.returns-clause-list
 unfolding over
 returns-clause-list c =
     let a = c.args in
-    let e = closeness_of a.setting in
+    let e = a.closeness in
     let f = c.first_segments.new.self in
     let t = c.follow.new.segments in
     let two = c.requires.in_bounds.0 in

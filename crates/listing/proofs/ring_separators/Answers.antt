@@ -3,7 +3,6 @@ use Rattle.std.proofs.Common.{◌≡◌, ◌∙◌, ◌≤◌, List, length, tak
 use mathlib.Core.Path.{subst}
 use Rattle.lists.specs.Lists.{first_index, over}
 use Rattle.lists.proofs.Firsts.{first-within}
-use Rattle.verdict.specs.Settings.{closeness_of}
 use Rattle.segmentation.specs.Ring.{opening}
 use Rattle.segmentation.proofs.RingPlaces.{opening-in}
 use Rattle.segmentation.proofs.RingModes.{ring-starts-taken}
@@ -15,7 +14,7 @@ use Rattle.listing.proofs.ring_separators.Goals.{After-ring_modes-found}
 
 -- there are no more modes than bins
 few : (c : After-ring_modes-found) → c.ring_modes-found.result.modes ≤ length c.args.h.now
-few c = omega (arith, c.ring_modes-found.ensures.1, ring-modes-most (closeness_of c.args.setting) c.args.h.now c.requires.in_bounds.0)
+few c = omega (arith, c.ring_modes-found.ensures.1, ring-modes-most c.args.closeness c.args.h.now c.requires.in_bounds.0)
 
 room : (c : After-ring_modes-found) → c.ring_modes-found.result.modes ≤ length c.ring_modes-found.new.places
 room c = omega (arith, few c)
@@ -50,7 +49,7 @@ overflow_cast-result c = omega (arith, few (goal.at.overflow_cast-result c).Afte
 pub returns : goal.returns
 returns c =
     let m = c.ring_modes-found in
-    let e = closeness_of c.args.setting in
+    let e = c.args.closeness in
     let h = c.args.h.now in
     let two = c.requires.in_bounds.0 in
     let starts = ring-starts-taken e h _ _ m.result.modes m.ensures.1 m.ensures.2 in

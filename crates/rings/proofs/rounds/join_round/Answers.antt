@@ -2,7 +2,6 @@
 use Rattle.std.proofs.Common.{ℕ, ◌≡◌, ◌+◌, ◌-◌, ◌≤◌, ◌<◌, List, length, refl, sym, ap, subst, ◌∙◌, arith}
 use Rattle.std.proofs.Math.Option.{some}
 use Rattle.verdict.specs.Test.{Closeness}
-use Rattle.verdict.specs.Settings.{closeness_of}
 use Rattle.segmentation.specs.declared.Join.{Join}
 use Rattle.segmentation.specs.Segments.{Segment}
 use Rattle.segmentation.specs.Joining.{Reader, line_reader, join_all}
@@ -28,9 +27,9 @@ module _ (e : Closeness) (read : Reader) (bins : ℕ) (s p : List ℕ) (n : ℕ)
       (v.two, omega (arith, v.all), omega (arith, v.starts))
 
   -- held twice over, they are joined to those that are left
-  made-is : (t q : List ℕ) (m : ℕ) → m ≡ n → segments_held t q 0 (n + n) ≡ twice bins modes → (left : List Segment) → left ≡ join_twice (segments_held t q 0 (m + m)) m j → left ≡ join_round bins modes j
+  made-is : (t q : List ℕ) (m : ℕ) → m ≡ n → segments_held t q 0 (m + m) ≡ twice bins modes → (left : List Segment) → left ≡ join_twice (segments_held t q 0 (m + m)) m j → left ≡ join_round bins modes j
   made-is t q m same again left made =
-      made ∙ joined-round (segments_held t q 0 (m + m)) m bins modes j (ap (λ (k : ℕ). segments_held t q 0 (k + k)) same ∙ again) (same ∙ sym (held-length s p 0 n))
+      made ∙ joined-round (segments_held t q 0 (m + m)) m bins modes j again (same ∙ sym (held-length s p 0 n))
 
   module _ (t q : List ℕ) (r : ℕ) (done : segments_held t q 0 r ≡ join_round bins modes j) where
     fewer : r < n
@@ -61,7 +60,7 @@ apply_round-requires c =
     let ring = c.loop-join.invariant.ring in
     let few = ring-count v.separators v.peaks v.count a.bins ring.on_ring.cut in
     let same = c.next_round.ensures.held.0 in
-    let run = valid (closeness_of a.setting) (line_reader a.round.now) a.bins v.separators v.peaks v.count c.in-Some.join (sym c.next_round.ensures.next ∙ ap join_found c.in-Some.is) in
+    let run = valid a.closeness (line_reader a.round.now) a.bins v.separators v.peaks v.count c.in-Some.join (sym c.next_round.ensures.next ∙ ap join_found c.in-Some.is) in
     (run.0, omega arith, omega arith, omega (arith, ring.limits))
 
 pub overflow_sub-known : goal.overflow_sub-known
@@ -70,7 +69,7 @@ overflow_sub-known c =
     let v = c.loop-join.modes in
     let r = c.next_round.new.modes in
     let t = c.apply_round.new.modes in
-    let e = closeness_of a.setting in
+    let e = a.closeness in
     let read = line_reader a.round.now in
     let next = sym c.next_round.ensures.next ∙ ap join_found c.in-Some.is in
     let done = made-is e read a.bins v.separators v.peaks v.count c.in-Some.join next r.separators r.peaks r.count c.next_round.ensures.held.0 c.next_round.ensures.again (segments_held t.separators t.peaks 0 t.count) c.apply_round.ensures.0 in
@@ -83,7 +82,7 @@ loop-join-smaller c =
     let v = c.loop-join.modes in
     let r = c.next_round.new.modes in
     let t = c.apply_round.new.modes in
-    let e = closeness_of a.setting in
+    let e = a.closeness in
     let read = line_reader a.round.now in
     let next = sym c.next_round.ensures.next ∙ ap join_found c.in-Some.is in
     let done = made-is e read a.bins v.separators v.peaks v.count c.in-Some.join next r.separators r.peaks r.count c.next_round.ensures.held.0 c.next_round.ensures.again (segments_held t.separators t.peaks 0 t.count) c.apply_round.ensures.0 in
@@ -95,7 +94,7 @@ loop-join-preserved c =
     let v = c.loop-join.modes in
     let r = c.next_round.new.modes in
     let t = c.apply_round.new.modes in
-    let e = closeness_of a.setting in
+    let e = a.closeness in
     let read = line_reader a.round.now in
     let next = sym c.next_round.ensures.next ∙ ap join_found c.in-Some.is in
     let done = made-is e read a.bins v.separators v.peaks v.count c.in-Some.join next r.separators r.peaks r.count c.next_round.ensures.held.0 c.next_round.ensures.again (segments_held t.separators t.peaks 0 t.count) c.apply_round.ensures.0 in
@@ -110,7 +109,7 @@ loop-join-preserved c =
         turns = i.ring.turns;
         as_long = i.ring.as_long;
         limits = i.ring.limits;
-        prepared = record { logs = i.ring.prepared.logs; close = i.ring.prepared.close; places = (omega (arith, i.ring.prepared.places, t.room, v.room), omega (arith, i.ring.prepared.places, t.room, v.room)) };
+        prepared = record { places = (omega (arith, i.ring.prepared.places, t.room, v.room), omega (arith, i.ring.prepared.places, t.room, v.room)) };
         on_ring = on;
       };
       none = none_left e read a.bins v.separators v.peaks v.count c.in-Some.join next t.separators t.peaks t.count done c.loop-join.known i.known.0 i.known.1 i.none;
@@ -122,12 +121,11 @@ pub returns : goal.returns
 returns c =
     let a = c.args in
     let v = c.loop-join.modes in
-    let r = c.next_round.new.modes in
     let i = c.loop-join.invariant in
     let held = c.next_round.ensures.held in
     let none = sym c.next_round.ensures.next ∙ ap join_found c.in_default.is in (
-      ap (λ (k : ℕ). segments_held r.separators r.peaks 0 k) held.0 ∙ held.1
-          ∙ sym (joins-none (ring_joins (closeness_of a.setting) (line_reader a.round.now) a.bins) v.count (segments_held v.separators v.peaks 0 v.count) none)
+      held.1
+          ∙ sym (joins-none (ring_joins a.closeness (line_reader a.round.now) a.bins) v.count (segments_held v.separators v.peaks 0 v.count) none)
           ∙ i.same,
       omega (arith, held.0, i.fewer),
     )

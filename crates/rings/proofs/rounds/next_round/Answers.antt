@@ -1,7 +1,7 @@
 -- The modes stand twice over, and the next join is found among them. Assumes nothing.
 use Rattle.std.proofs.Common.{ℕ, true, ◌≡◌, ◌+◌, ◌≤◌, List, length, refl, sym, ap, ap₂, subst, ◌∙◌, arith, rules}
 use Rattle.pooling.specs.Limits.{most_ring_bins}
-use Rattle.verdict.specs.Settings.{closeness_of}
+use Rattle.verdict.specs.Test.{Closeness}
 use Rattle.segmentation.specs.Segments.{Segment}
 use Rattle.segmentation.specs.Joining.{line_reader, next_among}
 use Rattle.segmentation.specs.Around.{twice, next_round}
@@ -15,7 +15,7 @@ use Rattle.rings.proofs.HeldTwice.{held-twice, held_kept, turn_end, separators-m
 use Rattle.rings.proofs.rounds.next_round.Goals as goal
 
 -- two lists that hold n modes of a ring, and hold them twice over then
-module _ (sheet : List ℕ) (setting : ℕ) (round s p : List ℕ) (n bins : ℕ) (ring : RingHeld sheet setting round s p n bins) where
+module _ (round s p : List ℕ) (n bins : ℕ) (ring : RingHeld round s p n bins) where
   abbrev modes : List Segment
   modes = segments_held s p 0 n
 
@@ -38,16 +38,16 @@ module _ (sheet : List ℕ) (setting : ℕ) (round s p : List ℕ) (n bins : ℕ
         subst (λ (xs : List ℕ). AllInside xs t q true n) (sym ring.turns) (ring-inside ring.turn few-bins ring.limits.1 modes on t q n (sym count) as-held)
 
     -- and those of the first modes are as they were
-    none_left : (known : ℕ) → known ≤ n → NoneAmong (closeness_of setting) (line_reader round) modes known
-        → NoneAmong (closeness_of setting) (line_reader round) (segments_held t q 0 (n + n)) known
-    none_left known within none =
-        subst (λ (ss : List Segment). NoneAmong (closeness_of setting) (line_reader round) ss known) (sym again)
-        (none-twice (closeness_of setting) (line_reader round) bins modes known (omega (arith, count)) none)
+    none_left : (e : Closeness) (known : ℕ) → known ≤ n → NoneAmong e (line_reader round) modes known
+        → NoneAmong e (line_reader round) (segments_held t q 0 (n + n)) known
+    none_left e known within none =
+        subst (λ (ss : List Segment). NoneAmong e (line_reader round) ss known) (sym again)
+        (none-twice e (line_reader round) bins modes known (omega (arith, count)) none)
 
     -- what is found among them comes next round the ring
-    next-is : next_among (closeness_of setting) (line_reader round) (segments_held t q 0 (n + n)) true n ≡ next_round (closeness_of setting) (line_reader round) bins modes
+    next-is : (e : Closeness) → next_among e (line_reader round) (segments_held t q 0 (n + n)) true n ≡ next_round e (line_reader round) bins modes
     unfolding next_round
-    next-is = ap₂ (λ (ss : List Segment) (k : ℕ). next_among (closeness_of setting) (line_reader round) ss true k) again (sym count)
+    next-is e = ap₂ (λ (ss : List Segment) (k : ℕ). next_among e (line_reader round) ss true k) again (sym count)
 
 pub repeat-requires : goal.repeat-requires
 repeat-requires c =
@@ -70,15 +70,15 @@ next_join-requires c =
     let ring = c.requires.ring_held in
     let most = ring.limits.0 in
     let none = c.requires.none_among in
-    let below = few a.sheet.now a.setting a.round.now v.separators v.peaks v.count a.bins ring in (
+    let below = few a.round.now v.separators v.peaks v.count a.bins ring in (
       search rules,
       (
-        record { logs = ring.prepared.logs; close = ring.prepared.close; places = (omega (arith, ring.prepared.places, c.repeat.auto), omega (arith, ring.prepared.places, c.repeat-2.auto)) },
+        record { places = (omega (arith, ring.prepared.places, c.repeat.auto), omega (arith, ring.prepared.places, c.repeat-2.auto)) },
         (
-          inside a.sheet.now a.setting a.round.now v.separators v.peaks v.count a.bins ring c.repeat.new.a c.repeat-2.new.a c.repeat.ensures c.repeat-2.ensures,
+          inside a.round.now v.separators v.peaks v.count a.bins ring c.repeat.new.a c.repeat-2.new.a c.repeat.ensures c.repeat-2.ensures,
           (
-            none_left a.sheet.now a.setting a.round.now v.separators v.peaks v.count a.bins ring c.repeat.new.a c.repeat-2.new.a c.repeat.ensures c.repeat-2.ensures a.known none.1 none.0,
-            (omega (arith, ring.on_ring.cut.non_empty, count a.sheet.now a.setting a.round.now v.separators v.peaks v.count a.bins ring), omega arith, none.1),
+            none_left a.round.now v.separators v.peaks v.count a.bins ring c.repeat.new.a c.repeat-2.new.a c.repeat.ensures c.repeat-2.ensures a.closeness a.known none.1 none.0,
+            (omega (arith, ring.on_ring.cut.non_empty, count a.round.now v.separators v.peaks v.count a.bins ring), omega arith, none.1),
           ),
         ),
       ),
@@ -88,7 +88,7 @@ pub returns-clause-next : goal.returns-clause-next
 returns-clause-next c =
     let a = c.args in
     let v = a.modes.now in
-    c.next_join.ensures ∙ next-is a.sheet.now a.setting a.round.now v.separators v.peaks v.count a.bins c.requires.ring_held c.repeat.new.a c.repeat-2.new.a c.repeat.ensures c.repeat-2.ensures
+    c.next_join.ensures ∙ next-is a.round.now v.separators v.peaks v.count a.bins c.requires.ring_held c.repeat.new.a c.repeat-2.new.a c.repeat.ensures c.repeat-2.ensures a.closeness
 
 pub returns-clause-held : goal.returns-clause-held
 returns-clause-held c =
@@ -99,4 +99,4 @@ pub returns-clause-again : goal.returns-clause-again
 returns-clause-again c =
     let a = c.args in
     let v = a.modes.now in
-    again a.sheet.now a.setting a.round.now v.separators v.peaks v.count a.bins c.requires.ring_held c.repeat.new.a c.repeat-2.new.a c.repeat.ensures c.repeat-2.ensures
+    again a.round.now v.separators v.peaks v.count a.bins c.requires.ring_held c.repeat.new.a c.repeat-2.new.a c.repeat.ensures c.repeat-2.ensures

@@ -2,7 +2,6 @@
 use Rattle.std.proofs.Common.{ℕ, suc, ◌≡◌, ◌+◌, ◌≤◌, ◌<◌, List, length, take, sym, ap, ap₂, subst, ◌∙◌, arith, rules, add-one}
 use Rattle.pooling.specs.Limits.{most_ring_bins}
 use Rattle.verdict.specs.Test.{Closeness}
-use Rattle.verdict.specs.Settings.{closeness_of}
 use Rattle.segmentation.specs.Segments.{Segment, first_segments}
 use Rattle.segmentation.specs.Joining.{line_reader, join_all, line_modes}
 use Rattle.segmentation.specs.Around.{ring_joins}
@@ -68,7 +67,7 @@ returns-then-modes-lt2 c =
     let h = c.args.h.now in
     let two = c.requires.in_bounds.0 in
     let t = c.first_segments.new.self in
-    one-mode h two (closeness_of c.args.setting) t.separators t.peaks t.count (c.first_segments.ensures ∙ ap first_segments (line-is h two c.args.round.now c.requires.in_bounds.3)) (omega arith)
+    one-mode h two c.args.closeness t.separators t.peaks t.count (c.first_segments.ensures ∙ ap first_segments (line-is h two c.args.round.now c.requires.in_bounds.3)) (omega arith)
 
 pub slice_bounds-join_all-end : goal.slice_bounds-join_all-end
 slice_bounds-join_all-end c =
@@ -84,7 +83,7 @@ join_all-requires c =
     let t = c.first_segments.new.self in
     let l = long h two in (
       search rules,
-      rw (line-is h two c.args.round.now c.requires.in_bounds.3) (first-on-line _ c.args.setting (opened h) t.separators t.peaks t.count c.copied_sheet-sheet.ensures c.requires.setting_le_last_setting (ring-small h two in_bounds.1 in_bounds.2)
+      rw (line-is h two c.args.round.now c.requires.in_bounds.3) (first-on-line (opened h) t.separators t.peaks t.count (ring-small h two in_bounds.1 in_bounds.2)
           (line-two h two) (omega (arith, t.room, in_bounds)) (omega (arith, t.room, in_bounds)) (c.first_segments.ensures ∙ ap first_segments (line-is h two c.args.round.now c.requires.in_bounds.3))),
     )
 
@@ -97,17 +96,17 @@ join_round-requires-clause-ring_held c =
     let f = c.first_segments.new.self in
     let t = c.join_all.new.self in
     let line = line-is h two c.args.round.now in_bounds.3 in
-    let held : segments_held t.separators t.peaks 0 t.count ≡ line_modes (closeness_of c.args.setting) (opened h) =
-    rw line at c.join_all.ensures.all ∙ line-held (closeness_of c.args.setting) (opened h) f.separators f.peaks f.count (c.first_segments.ensures ∙ ap first_segments line) in
+    let held : segments_held t.separators t.peaks 0 t.count ≡ line_modes c.args.closeness (opened h) =
+    rw line at c.join_all.ensures.all ∙ line-held c.args.closeness (opened h) f.separators f.peaks f.count (c.first_segments.ensures ∙ ap first_segments line) in
     let one : 1 ≤ length h = omega arith in
-    let few = modes-few h two (closeness_of c.args.setting) t.separators t.peaks t.count held in
+    let few = modes-few h two c.args.closeness t.separators t.peaks t.count held in
     record {
       turn = from_opening h;
       turns = in_bounds.3;
       as_long = opening-length h one;
       limits = (in_bounds.1, omega (arith, opening-total h, in_bounds));
-      prepared = record { logs = c.copied_sheet-sheet.ensures; close = c.requires.setting_le_last_setting; places = (omega (arith, t.room, in_bounds), omega (arith, t.room, in_bounds)) };
-      on_ring = on-ring h two (closeness_of c.args.setting) t.separators t.peaks t.count held;
+      prepared = record { places = (omega (arith, t.room, in_bounds), omega (arith, t.room, in_bounds)) };
+      on_ring = on-ring h two c.args.closeness t.separators t.peaks t.count held;
     }
 
 pub join_round-requires-clause-none_among : goal.join_round-requires-clause-none_among
@@ -118,10 +117,10 @@ join_round-requires-clause-none_among c =
     let f = c.first_segments.new.self in
     let t = c.join_all.new.self in
     let line = line-is h two c.args.round.now in_bounds.3 in
-    let held : segments_held t.separators t.peaks 0 t.count ≡ line_modes (closeness_of c.args.setting) (opened h) =
-    rw line at c.join_all.ensures.all ∙ line-held (closeness_of c.args.setting) (opened h) f.separators f.peaks f.count (c.first_segments.ensures ∙ ap first_segments line) in
-    subst (λ (round : List ℕ). NoneAmong (closeness_of c.args.setting) (line_reader round) (segments_held t.separators t.peaks 0 t.count) t.count) (sym in_bounds.3)
-    (none_left h two (closeness_of c.args.setting) t.separators t.peaks t.count held in_bounds.1)
+    let held : segments_held t.separators t.peaks 0 t.count ≡ line_modes c.args.closeness (opened h) =
+    rw line at c.join_all.ensures.all ∙ line-held c.args.closeness (opened h) f.separators f.peaks f.count (c.first_segments.ensures ∙ ap first_segments line) in
+    subst (λ (round : List ℕ). NoneAmong c.args.closeness (line_reader round) (segments_held t.separators t.peaks 0 t.count) t.count) (sym in_bounds.3)
+    (none_left h two c.args.closeness t.separators t.peaks t.count held in_bounds.1)
 
 pub returns : goal.returns
 returns c =
@@ -131,9 +130,9 @@ returns c =
     let f = c.first_segments.new.self in
     let t = c.join_all.new.self in
     let line = line-is h two c.args.round.now in_bounds.3 in
-    let held : segments_held t.separators t.peaks 0 t.count ≡ line_modes (closeness_of c.args.setting) (opened h) =
-    rw line at c.join_all.ensures.all ∙ line-held (closeness_of c.args.setting) (opened h) f.separators f.peaks f.count (c.first_segments.ensures ∙ ap first_segments line) in
+    let held : segments_held t.separators t.peaks 0 t.count ≡ line_modes c.args.closeness (opened h) =
+    rw line at c.join_all.ensures.all ∙ line-held c.args.closeness (opened h) f.separators f.peaks f.count (c.first_segments.ensures ∙ ap first_segments line) in
     let ss = segments_held t.separators t.peaks 0 t.count in
     c.join_round.ensures.0
-    ∙ ap (λ (round : List ℕ). join_all t.count (ring_joins (closeness_of c.args.setting) (line_reader round) (length h)) ss) in_bounds.3
-    ∙ ring-held (closeness_of c.args.setting) h t.separators t.peaks t.count held
+    ∙ ap (λ (round : List ℕ). join_all t.count (ring_joins c.args.closeness (line_reader round) (length h)) ss) in_bounds.3
+    ∙ ring-held c.args.closeness h t.separators t.peaks t.count held
