@@ -42,7 +42,7 @@ impl Logarithm {
         requires { Loggable x }
         ensures { result ≡ start x }
     {
-        let zeros = u64::leading_zeros(x);
+        let zeros = x.leading_zeros();
         Logarithm {
             mantissa: x << (zeros - 32),
             bits: u64::from(63 - zeros),
@@ -82,7 +82,7 @@ impl Odd {
         requires { Loggable x }
         ensures { result ≡ record { odd = odd_part x; twos = twos_of x } }
     {
-        let zeros = u64::trailing_zeros(x);
+        let zeros = x.trailing_zeros();
         Odd {
             odd: x >> zeros,
             twos: u64::from(zeros),
