@@ -50,21 +50,21 @@ fn push(places: &mut [Place], top: usize, rising: bool, bin: Block) -> usize
     ensures pushed { stack_of places.new result ≡ Blocks.push (direction rising) bin (stack_of places.old top) }
 {
     let mut block = bin;
-    let mut free = top - 1;
+    let mut next = top;
     // how many blocks go from the top depends on their means
-    while free + 1 < places.len() {
-        let next = &places[free + 1].block;
-        if steps_to(rising, &block, next) {
+    while next < places.len() {
+        let on_top = &places[next].block;
+        if steps_to(rising, &block, on_top) {
             break;
         }
         block = Block {
-            sum: block.sum + next.sum,
-            len: block.len + next.len,
+            sum: block.sum + on_top.sum,
+            len: block.len + on_top.len,
         };
-        free += 1;
+        next += 1;
     }
-    places[free].block = block;
-    free
+    places[next - 1].block = block;
+    next - 1
 }
 
 // A step: takes bin i, the next below the bins taken so far. Returns where the top is then.
