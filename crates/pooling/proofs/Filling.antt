@@ -1,45 +1,45 @@
--- The places of blocks, written into a buffer block by block from the first. Assumes nothing.
+-- The places of blocks, written block by block from the first. Assumes nothing.
 use mathlib.Core.Path.{◌≡◌, refl, sym, ◌∙◌, ap}
-use mathlib.Core.List.{List, [], ◌∷◌, ◌++◌, reverse, append_assoc}
-use Prim.Native.Nat.{ℕ, ◌+◌, ◌≤◌}
+use mathlib.Core.List.{List, [], ◌∷◌, ◌++◌, map}
+use Prim.Native.Nat.{ℕ, ◌+◌, ◌≤◌, ◌<◌}
 use native.Mathlib.Omega.{arith}
-use lib.ListN.{length, take, drop, replicate, length-append, length-replicate}
-use lib.Seq.{length-take-le, take_all, take_at, take-add, take-append_seam, drop-drop, drop_at}
+use lib.ListN.{length, take, drop, replicate, length-append, length-drop, length-replicate}
+use lib.Seq.{length-take-le, take_all, take_at, take-add, drop-drop, drop_at}
 use borrow.Rule.Slice.PartMut.{put_mid}
-use Rattle.std.proofs.lemmas.List.{reverse-append}
-use Rattle.lists.specs.Lists.{over}
+use Rattle.std.proofs.lemmas.Slice.{take-put_mid, drop-put_mid}
 use Rattle.pooling.specs.Blocks.{Block, Direction, Place, blocks, places_from, places}
-use Rattle.pooling.specs.Stack.{bins_in}
-use Rattle.pooling.proofs.Cuts.{cut-bins}
+use Rattle.pooling.specs.Stack.{stack_of, bins_in}
+use Rattle.pooling.proofs.Basics.{Full}
+use Rattle.pooling.proofs.Cuts.{cut-bins, cut-full}
 use Rattle.pooling.proofs.Laws.{blocks-cut}
 use Rattle.pooling.proofs.Places.{places-length}
+use Rattle.pooling.proofs.Stacking.{block_at, stack-length, stack_top}
 
--- a part of a buffer, right after the list in its first places
-over-part : {A : Type 0} (xs ys buffer : List A) (i k : ℕ) → i ≡ length xs → k ≡ length ys → put_mid i k (over xs buffer) ys ≡ over (xs ++ ys) buffer
-unfolding over
-over-part xs ys buffer i k e f =
-    rw (e, f)
-    (ap (λ z. z ++ (ys ++ drop (length ys) (drop (length xs) (xs ++ drop (length xs) buffer)))) (take-append_seam xs (drop (length xs) buffer))
-    ∙ ap (λ z. xs ++ (ys ++ drop (length ys) z)) (drop_at xs (drop (length xs) buffer) (length xs) refl)
-    ∙ ap (λ z. xs ++ (ys ++ z)) (drop-drop (length ys) (length xs) buffer ∙ ap (λ n. drop n buffer) (sym (length-append xs ys)))
-    ∙ sym (append_assoc xs ys (drop (length (xs ++ ys)) buffer)))
+-- there are no more blocks than bins
+full-few : (bs : List Block) → Full bs → length bs ≤ bins_in bs
+unfolding bins_in
+full-few [] f = omega arith
+full-few (b ∷ bs) f = omega (arith, f.0, full-few bs f.1)
 
 module _ (w : Direction) (h : List ℕ) where
   -- the blocks from bin `from` on
   pub record Left (bs : List Block) (from : ℕ) : Type 0 where
+    pub full : Full bs
     pub within : from + bins_in bs ≡ length h
     pub rest : places_from from bs ≡ drop from (places w h)
 
-  pub left-all : (bs : List Block) → bs ≡ blocks w h → Left bs 0
+  left-all : (bs : List Block) → bs ≡ blocks w h → Left bs 0
   unfolding places
-  left-all bs e = record { within = omega (arith, ap bins_in e, cut-bins (blocks-cut w h)); rest = ap (places_from 0) e }
+  left-all bs e = record {
+    full = rw e (cut-full (blocks-cut w h));
+    within = omega (arith, ap bins_in e, cut-bins (blocks-cut w h));
+    rest = ap (places_from 0) e;
+  }
 
-  -- with no block left, all bins are passed, and the buffer has each bin's place
-  pub left-none : (bs : List Block) (from : ℕ) (buffer₀ buffer : List Place) → length bs ≡ 0 → Left bs from → buffer ≡ over (take from (places w h)) buffer₀ → buffer ≡ over (places w h) buffer₀
+  left-none : (bs : List Block) (from : ℕ) → length bs ≡ 0 → Left bs from → from ≡ length h
   unfolding bins_in
-  left-none (b ∷ bs) from buffer₀ buffer z v held = absurd (omega arith)
-  left-none [] from buffer₀ buffer z v held =
-      held ∙ ap (λ (ps : List Place). over ps buffer₀) (take_all from (places w h) (omega (arith, places-length w h, v.within)))
+  left-none (b ∷ bs) from z v = absurd (omega arith)
+  left-none [] from z v = omega (arith, v.within)
 
   -- the first of the blocks left
   module _ (b : Block) (bs : List Block) (from : ℕ) (v : Left (b ∷ bs) from) where
@@ -50,16 +50,17 @@ module _ (w : Direction) (h : List ℕ) where
     unfolding places_from
     split = sym v.rest
 
-    pub left-room : from + b.len ≤ length h
-    unfolding bins_in
-    left-room = omega (arith, v.within)
-
-    pub left-next : Left bs (from + b.len)
+    left-next : Left bs (from + b.len)
     unfolding bins_in
     left-next = record {
+      full = v.full.1;
       within = omega (arith, v.within);
       rest = sym (sym (drop-drop b.len from (places w h)) ∙ ap (drop b.len) split ∙ drop_at (replicate b.len first-left) _ b.len (length-replicate b.len first-left));
     }
+
+    left-room : from + b.len + length bs ≤ length h
+    unfolding bins_in
+    left-room = omega (arith, v.within, full-few bs v.full.1)
 
     -- the places up to the end of this block
     taken_next : take (from + b.len) (places w h) ≡ take from (places w h) ++ replicate b.len first-left
@@ -67,19 +68,48 @@ module _ (w : Direction) (h : List ℕ) where
         take-add from b.len (places w h) ∙ ap (λ (z : List Place). take from (places w h) ++ z)
         (ap (take b.len) split ∙ take_at (replicate b.len first-left) _ b.len (length-replicate b.len first-left))
 
-    -- a buffer that is filled with this block's places too
-    pub filled_more : (buffer₀ buffer part : List Place) (k m : ℕ) → buffer ≡ over (take from (places w h)) buffer₀
-        → k ≡ b.len → m ≡ b.len → part ≡ replicate m first-left
-        → put_mid from k buffer part ≡ over (take (from + b.len) (places w h)) buffer₀
-    filled_more buffer₀ buffer part k m held e f g =
-        let xs = take from (places w h) in
-        let ys : part ≡ replicate b.len first-left = g ∙ ap (λ (n : ℕ). replicate n first-left) f in
-        let long : length xs ≡ from = length-take-le from (places w h) (omega (arith, places-length w h, left-room)) in
-        ap (λ (z : List Place). put_mid from k z part) held
-        ∙ ap (λ (z : List Place). put_mid from k (over xs buffer₀) z) ys
-        ∙ over-part xs (replicate b.len first-left) buffer₀ from k (sym long) (e ∙ sym (length-replicate b.len first-left))
-        ∙ ap (λ (z : List Place). over z buffer₀) (sym taken_next)
+  -- the places below `from` are written, and from place `next` on the stack has the blocks that are left
+  pub record Written (ps : List Place) (from next : ℕ) : Type 0 where
+    pub as_many : length ps ≡ length h
+    pub in_bounds : next ≤ length ps
+    pub left : Left (stack_of ps next) from
+    pub written : take from ps ≡ take from (places w h)
 
--- the last of a list is the first of it reversed
-pub reverse_push : (bs cs : List Block) (b : Block) → bs ≡ cs ++ (b ∷ []) → reverse bs ≡ b ∷ reverse cs
-reverse_push bs cs b e = ap reverse e ∙ reverse-append cs (b ∷ [])
+  pub none-written : (ps : List Place) (next : ℕ) → length ps ≡ length h → next ≤ length ps → stack_of ps next ≡ blocks w h → Written ps 0 next
+  none-written ps next l k e = record { as_many = l; in_bounds = k; left = left-all (stack_of ps next) e; written = refl }
+
+  pub all-written : (ps : List Place) (from next : ℕ) → length ps ≤ next → Written ps from next → ps ≡ places w h
+  all-written ps from next k v =
+      let e : from ≡ length h = left-none (stack_of ps next) from (omega (arith, v.in_bounds, stack-length ps next v.in_bounds)) v.left in
+      sym (take_all from ps (omega (arith, v.as_many))) ∙ v.written ∙ take_all from (places w h) (omega (arith, places-length w h))
+
+  module _ (ps : List Place) (from next : ℕ) (some : next < length ps) (v : Written ps from next) where
+    abbrev b : Block
+    b = block_at ps next
+
+    first : Left (b ∷ stack_of ps (next + 1)) from
+    first = rw (sym (stack_top ps next some)) v.left
+
+    -- its places end before the next block that is left
+    pub written-room : from + b.len ≤ next + 1
+    written-room = omega (arith, v.as_many, left-room b (stack_of ps (next + 1)) from first, stack-length ps (next + 1) (omega arith))
+
+    -- the places of this block too
+    pub written_more : (part : List Place) (k m : ℕ) → k ≡ b.len → m ≡ b.len → part ≡ replicate m (record { start = from; block = b })
+        → Written (put_mid from k ps part) (from + b.len) (next + 1)
+    written_more part k m e f g =
+        let ys : part ≡ replicate b.len (record { start = from; block = b }) = g ∙ ap (λ (n : ℕ). replicate n (record { start = from; block = b })) f in
+        let long : length part ≡ b.len = ap length ys ∙ length-replicate b.len (record { start = from; block = b }) in
+        let fits : from + k ≤ next + 1 = omega (arith, written-room) in
+        let below : from ≤ length ps = omega arith in
+        let as_many : length (put_mid from k ps part) ≡ length h =
+        omega (arith, v.as_many, length-append (take from ps) (part ++ drop k (drop from ps)), length-append part (drop k (drop from ps)), length-take-le from ps below, length-drop k (drop from ps), length-drop from ps) in
+        let rest : stack_of (put_mid from k ps part) (next + 1) ≡ stack_of ps (next + 1) =
+        ap (map (λ (p : Place). p.block)) (drop-put_mid from k ps part (next + 1) fits below (long ∙ sym e)) in
+        record {
+          as_many = as_many;
+          in_bounds = omega (arith, v.as_many);
+          left = rw rest (left-next b (stack_of ps (next + 1)) from first);
+          written = take-put_mid from k ps part (from + b.len) (omega arith) below ∙ ap (λ (z : List Place). z ++ part) v.written
+              ∙ ap (λ (z : List Place). take from (places w h) ++ z) ys ∙ sym (taken_next b (stack_of ps (next + 1)) from first);
+        }

@@ -1,64 +1,62 @@
 -- The stack of blocks: its top, a store on top of it, a push, a bin more, and bounds on what it holds. Assumes nothing.
-use mathlib.Core.Path.{◌≡◌, refl, sym, ◌∙◌, ap}
+use mathlib.Core.Path.{◌≡◌, sym, ◌∙◌, ap}
 use mathlib.Core.Bool.{Bool, true, false}
-use mathlib.Core.List.{List, [], ◌∷◌, reverse}
-use Prim.Native.Nat.{ℕ, zero, suc, ◌+◌, ◌-◌, ◌≤◌, ◌<◌}
+use mathlib.Core.List.{List, [], ◌∷◌, map}
+use Prim.Native.Nat.{ℕ, ◌+◌, ◌≤◌, ◌<◌}
 use native.Mathlib.Omega.{arith}
 use native.Mathlib.Numerals.{add-one}
-use lib.ListN.{length, get_or, set, take, drop, length-drop}
-use lib.Seq.{drop-cons, take-suc, take-suc-set, length-take-le}
-use Rattle.std.proofs.lemmas.List.{length-reverse, reverse-append}
+use lib.ListN.{length, get_or, set, drop, length-drop, length-map, drop_of_length-le}
+use lib.Seq.{drop-cons}
+use Rattle.std.proofs.lemmas.List.{drop-set}
 use Rattle.lists.specs.Lists.{total}
 use Rattle.lists.proofs.Sums.{total-split}
-use Rattle.pooling.specs.Blocks.{Block, Direction, steps_to, merged, push, blocks}
+use Rattle.pooling.specs.Blocks.{Block, Place, Direction, steps_to, merged, push, blocks}
 use Rattle.pooling.specs.Stack.{stack_of, sum_in, bins_in, HeldFrom}
 use Rattle.pooling.proofs.Cuts.{cut_sum, cut-bins, cut-few}
 use Rattle.pooling.proofs.Laws.{blocks-cut}
 
--- what is read past an array's end
-abbrev pub no_block : Block
-no_block = record { sum = 0; len = 0 }
+-- what is read past the last place
+abbrev pub no_place : Place
+no_place = record { start = 0; block = record { sum = 0; len = 0 } }
 
--- ---- the stack in the array
-pub stack-length : (bs : List Block) (n : ℕ) → n ≤ length bs → length (stack_of bs n) ≡ n
-stack-length bs n h = length-reverse (take n bs) ∙ length-take-le n bs h
+abbrev pub block_at : List Place → ℕ → Block
+block_at ps k = (get_or ps k no_place).block
 
-pub stack_top : (bs : List Block) (n : ℕ) → 0 < n → n ≤ length bs → stack_of bs n ≡ get_or bs (n - 1) no_block ∷ stack_of bs (n - 1)
-stack_top bs n h k =
-    let e : n ≡ suc (n - 1) = omega arith in
-    ap (λ (m : ℕ). stack_of bs m) e
-    ∙ ap reverse (take-suc bs (n - 1) no_block (omega arith))
-    ∙ reverse-append (take (n - 1) bs) (get_or bs (n - 1) no_block ∷ [])
+-- ---- the stack in the places
+pub stack-length : (ps : List Place) (t : ℕ) → t ≤ length ps → length (stack_of ps t) + t ≡ length ps
+stack-length ps t h = omega (arith, length-map (drop t ps) (λ (p : Place). p.block), length-drop t ps)
 
-pub sum_top : (bs : List Block) (n : ℕ) → 0 < n → n ≤ length bs → sum_in (stack_of bs n) ≡ (get_or bs (n - 1) no_block).sum + sum_in (stack_of bs (n - 1))
+pub stack-none : (ps : List Place) (t : ℕ) → length ps ≤ t → stack_of ps t ≡ []
+stack-none ps t h = ap (map (λ (p : Place). p.block)) (drop_of_length-le ps {i = t} h)
+
+pub stack_top : (ps : List Place) (t : ℕ) → t < length ps → stack_of ps t ≡ block_at ps t ∷ stack_of ps (t + 1)
+stack_top ps t h = ap (map (λ (p : Place). p.block)) (drop-cons ps t no_place h ∙ ap (λ (m : ℕ). get_or ps t no_place ∷ drop m ps) (sym (add-one t)))
+
+pub sum_top : (ps : List Place) (t : ℕ) → t < length ps → sum_in (stack_of ps t) ≡ (block_at ps t).sum + sum_in (stack_of ps (t + 1))
 unfolding sum_in
-sum_top bs n h k = ap sum_in (stack_top bs n h k)
+sum_top ps t h = ap sum_in (stack_top ps t h)
 
-pub bins-top : (bs : List Block) (n : ℕ) → 0 < n → n ≤ length bs → bins_in (stack_of bs n) ≡ (get_or bs (n - 1) no_block).len + bins_in (stack_of bs (n - 1))
+pub bins-top : (ps : List Place) (t : ℕ) → t < length ps → bins_in (stack_of ps t) ≡ (block_at ps t).len + bins_in (stack_of ps (t + 1))
 unfolding bins_in
-bins-top bs n h k = ap bins_in (stack_top bs n h k)
+bins-top ps t h = ap bins_in (stack_top ps t h)
 
-pub stack-store : (bs : List Block) (n : ℕ) (b : Block) → n < length bs → stack_of (set bs n b) (n + 1) ≡ b ∷ stack_of bs n
-stack-store bs n b h =
-    ap (λ (m : ℕ). stack_of (set bs n b) m) (add-one n)
-    ∙ ap reverse (take-suc-set bs n b h)
-    ∙ reverse-append (take n bs) (b ∷ [])
+-- what is stored on top
+pub stack-store : (ps : List Place) (t : ℕ) (p : Place) → t < length ps → stack_of (set ps t p) t ≡ p.block ∷ stack_of ps (t + 1)
+stack-store ps t p h = ap (map (λ (q : Place). q.block)) (drop-set ps t p h)
 
 -- ---- a push onto the stack: onto none, onto a top to which the step is strict, and into a top to which it is not
-pub push-none : (w : Direction) (b : Block) (bs : List Block) (n : ℕ) → n ≤ 0 → push w b (stack_of bs n) ≡ b ∷ stack_of bs n
+pub push-none : (w : Direction) (b : Block) (ps : List Place) (t : ℕ) → length ps ≤ t → push w b (stack_of ps t) ≡ b ∷ stack_of ps t
 unfolding push
-push-none w b bs zero h = refl
-push-none w b bs (suc n) h = absurd (omega arith)
+push-none w b ps t h = rw (stack-none ps t h)
 
-module _ (w : Direction) (b : Block) (bs : List Block) (n : ℕ) (t : Bool) (some : 0 < n) (within : n ≤ length bs)
-    (e : t ≡ steps_to w b (get_or bs (n - 1) no_block)) where
-  pub push-strict : t ≡ true → push w b (stack_of bs n) ≡ b ∷ stack_of bs n
+module _ (w : Direction) (b : Block) (ps : List Place) (t : ℕ) (strict : Bool) (some : t < length ps) (e : strict ≡ steps_to w b (block_at ps t)) where
+  pub push-strict : strict ≡ true → push w b (stack_of ps t) ≡ b ∷ stack_of ps t
   unfolding push
-  push-strict g = rw (stack_top bs n some within) (rw (← e, g))
+  push-strict g = rw (stack_top ps t some) (rw (← e, g))
 
-  pub push-merged : (st : List Block) → t ≡ false → push w b (stack_of bs n) ≡ st → push w (merged b (get_or bs (n - 1) no_block)) (stack_of bs (n - 1)) ≡ st
+  pub push-merged : (st : List Block) → strict ≡ false → push w b (stack_of ps t) ≡ st → push w (merged b (block_at ps t)) (stack_of ps (t + 1)) ≡ st
   unfolding push
-  push-merged st g p = rw (← e, g) at (rw (stack_top bs n some within) at p)
+  push-merged st g p = rw (← e, g) at (rw (stack_top ps t some) at p)
 
 -- ---- the next lower bin, bin i: the blocks of the bins after it are held
 module _ (w : Direction) (h : List ℕ) (i : ℕ) (bs : List Block) (within : i < length h) (held : HeldFrom w h (i + 1) bs) where

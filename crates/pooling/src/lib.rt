@@ -1,15 +1,13 @@
 // Pooling: the blocks of a monotone fit, and each bin's place in them.
 #![tactic(auto)]
 
-ghost use Rattle.std.specs.Prelude.{◌≡◌, ◌≤◌, length};
+ghost use Rattle.std.specs.Prelude.{◌≡◌, ◌+◌, ◌<◌, ◌≤◌, length, drop};
 ghost use Rattle.lists.specs.Lists.{over};
-ghost use Rattle.pooling.specs.Blocks.{direction};
+ghost use Rattle.pooling.specs.Blocks.{Block, direction, steps_to, blocks};
 ghost use Rattle.pooling.specs.Blocks as Blocks;
-ghost use Rattle.pooling.specs.Limits.{Small};
-
-use stack::Stack;
-
-mod stack;
+ghost use Rattle.pooling.specs.Limits.{most_bins, most_counts, Small};
+ghost use Rattle.pooling.specs.Best.{Pooled};
+ghost use Rattle.pooling.specs.Stack.{stack_of, sum_in, bins_in, HeldFrom};
 
 // The most bins that a stretch is allowed: those of a full turn of the largest ring, with the bin of a separator at both ends.
 pub const MOST_BINS: usize = 257;
@@ -28,21 +26,98 @@ pub struct Place {
     pub block: Block,
 }
 
+// Whether the step from the mean of a to the mean of b is strictly in the direction of the fit.
+fn steps_to(rising: bool, a: &Block, b: &Block) -> bool
+    requires { (a.now.sum ≤ most_counts) × (a.now.len ≤ most_bins) × (b.now.sum ≤ most_counts) × (b.now.len ≤ most_bins) }
+    ensures { result ≡ steps_to (direction rising) a.now b.now }
+{
+    if rising {
+        a.sum * b.len < b.sum * a.len
+    } else {
+        b.sum * a.len < a.sum * b.len
+    }
+}
+
+// The blocks are pooled on a stack, which lies in the last of the places that are to be written: memory of its own would have to be cleared for each fit. The block on top, the first in the order of
+// the bins, is in place `top`.
+
+// Pushes a block, merged with those on top while the step to them is not strict. Returns where the top is then.
+fn push(places: &mut [Place], top: usize, rising: bool, bin: Block) -> usize
+    requires room { (0 < top) × (top ≤ length places.old) }
+    requires counts { sum_in (stack_of places.old top) + bin.sum ≤ most_counts }
+    requires bins { bins_in (stack_of places.old top) + bin.len ≤ most_bins }
+    ensures within { result ≤ length places.old }
+    ensures pushed { stack_of places.new result ≡ Blocks.push (direction rising) bin (stack_of places.old top) }
+{
+    let mut block = bin;
+    let mut next = top;
+    // how many blocks go from the top depends on their means
+    while next < places.len() {
+        let on_top = &places[next].block;
+        if steps_to(rising, &block, on_top) {
+            break;
+        }
+        block = Block {
+            sum: block.sum + on_top.sum,
+            len: block.len + on_top.len,
+        };
+        next += 1;
+    }
+    places[next - 1].block = block;
+    next - 1
+}
+
+// A step: takes bin i, the next below the bins taken so far. Returns where the top is then.
+fn take_bin(h: &[u32], rising: bool, i: usize, places: &mut [Place], top: usize) -> usize
+    requires small { Small h.now }
+    requires as_many { length places.old ≡ length h.now }
+    requires in_bounds { (i < length h.now) × (top ≤ length places.old) }
+    requires held { HeldFrom (direction rising) h.now (i + 1) (stack_of places.old top) }
+    ensures within { result ≤ length places.old }
+    ensures held { HeldFrom (direction rising) h.now i (stack_of places.new result) }
+    ensures pooled { Pooled (direction rising) (drop i h.now) }
+{
+    push(places, top, rising, Block { sum: h[i], len: 1 })
+}
+
+// Takes all bins, from the last to the first. Returns where the top is.
+fn pool(h: &[u32], rising: bool, places: &mut [Place]) -> usize
+    requires small { Small h.now }
+    requires as_many { length places.old ≡ length h.now }
+    ensures within { result ≤ length places.old }
+    ensures pooled { stack_of places.new result ≡ blocks (direction rising) h.now }
+{
+    let mut top = places.len();
+    for i in (0..h.len()).rev() {
+        top = take_bin(h, rising, i, places, top);
+    }
+    top
+}
+
+// Writes the place of each bin, of which there are as many as places.
+fn write_places(h: &[u32], rising: bool, places: &mut [Place])
+    requires small { Small h.now }
+    requires as_many { length places.old ≡ length h.now }
+    ensures { places.new ≡ Blocks.places (direction rising) h.now }
+{
+    let top = pool(h, rising, places);
+    let mut from: usize = 0;
+    for next in top..places.len() {
+        let block = places[next].block;
+        let to = from + block.len as usize;
+        places[from..to].fill(Place {
+            start: from as u32,
+            block,
+        });
+        from = to;
+    }
+}
+
 // Writes each bin's place.
 pub fn fit_places(h: &[u32], rising: bool, places: &mut [Place])
     requires small { Small h.now }
     requires h_in_bounds { length h.now ≤ length places.old }
     ensures { places.new ≡ over (Blocks.places (direction rising) h.now) places.old }
 {
-    let mut stack = Stack::new();
-    stack.pool(h, rising);
-    let mut from: usize = 0;
-    for block in stack.blocks().iter().rev() {
-        let to = from + block.len as usize;
-        places[from..to].fill(Place {
-            start: from as u32,
-            block: *block,
-        });
-        from = to;
-    }
+    write_places(h, rising, &mut places[..h.len()]);
 }
