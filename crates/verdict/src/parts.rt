@@ -83,7 +83,7 @@ impl Turn {
     }
 }
 
-// A stretch whose parts are tested, with the counts before each of its bins and each bin's place.
+// A stretch whose parts are tested, with the counts before each of its bins and each bin's place. `rising` is a flag as in the calls for C, which have a bool there.
 #[derive(Drop)]
 pub struct Stretch<'a> {
     pub h: &'a [u32],

@@ -26,7 +26,7 @@ fn better(n: u64, best: Best, weight: i64) -> Best
 }
 
 // Of the parts that end at bin j, the first from bin `first` on that is not near its fitted mass; `end` if all before that are.
-// Not an `Option`: with `None` for `end` the compiler keeps more values in the loop, and a search takes a tenth more instructions.
+// Not an `Option`: tried, and with `None` for `end` the compiler keeps more values in the loop, and a search takes a tenth more instructions.
 fn first_far(s: &Stretch, turn: Turn, j: usize, first: usize, end: usize, t: Threshold) -> usize
     requires j_in_bounds { (j < length s.now.h.now) × (first_in turn s.now j ≤ first) × (first ≤ end) × (end ≤ end_in turn s.now j) }
     requires usable { Usable t }
