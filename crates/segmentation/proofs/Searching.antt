@@ -1,6 +1,6 @@
 -- The search for the next join: how the cost of a run is chosen, and the search from left to right and over the lengths. Assumes nothing.
 use Prim.Native.Nat.{ℕ, suc, ◌+◌, ◌-◌, ◌^◌, ◌≤◌, ◌<◌}
-use mathlib.Core.Path.{◌≡◌, refl, sym, subst, ◌∙◌}
+use mathlib.Core.Path.{◌≡◌, refl, sym, ap, subst, ◌∙◌}
 use mathlib.Core.Bool.{Bool, true, false, cond, false≢true}
 use mathlib.Core.List.{List, map}
 use mathlib.Core.Option.{Option, none, some, none-ne-some, some-ne-none}
@@ -141,10 +141,11 @@ module _ (j : ℕ → Join) (i : ℕ) (best : Found Join) (least : ℤ) (r : Joi
       rw add-one (record { same = rw left s.same; least_is = rw left s.least_is; small = s.small })
 
 -- of the runs that start at number 0, 1, .., last
-pub searched-to : (e : Closeness) (read : Reader) (ss : List Segment) (last len : ℕ)
-    → so_far (λ i. join_of e read ss i len) (suc last) ≡ where_below (cheapest e read ss last len)
+pub searched-to : (e : Closeness) (read : Reader) (ss : List Segment) (last len i : ℕ) (best : Found Join) (least : ℤ)
+    → Searched (λ k. join_of e read ss k len) i best least → i ≡ suc last → join_found best ≡ where_below (cheapest e read ss last len)
 unfolding cheapest
-searched-to e read ss last len = found-lowest (λ (r : Join). r.cost) (pos 0) (λ i. join_of e read ss i len) last
+searched-to e read ss last len i best least s q =
+    s.same ∙ ap (so_far (λ k. join_of e read ss k len)) q ∙ found-lowest (λ (r : Join). r.cost) (pos 0) (λ k. join_of e read ss k len) last
 
 -- ---- the search over the lengths n, n + 1, .., count, where `pick` gives the cheapest run of each
 module _ (pick : ℕ → Join) (count : ℕ) where
@@ -158,29 +159,29 @@ module _ (pick : ℕ → Join) (count : ℕ) where
       let q : suc count - n ≡ suc (suc count - (n + 1)) = omega arith in
       rw (q, add-one) refl
 
-  -- a join that the length n gives comes next
-  pub length_found : (n : ℕ) (b : Found Join) → n ≤ count → join_found b ≡ where_below (pick n) → is_some b ≡ true → join_found b ≡ from_length n
-  length_found n None h s t = absurd (false≢true t)
-  length_found n (Some r) h s t = go (lt_z (pick n).cost (pos 0)) refl
+  -- o is what comes next: a join that the length n gives
+  pub length_found : (n : ℕ) (o : Option Join) (b : Found Join) → o ≡ from_length n → n ≤ count → join_found b ≡ where_below (pick n) → is_some b ≡ true → join_found b ≡ o
+  length_found n o None q h s t = absurd (false≢true t)
+  length_found n o (Some r) q h s t = go (lt_z (pick n).cost (pos 0)) refl
     where
-      go : (u : Bool) → lt_z (pick n).cost (pos 0) ≡ u → some r ≡ from_length n
+      go : (u : Bool) → lt_z (pick n).cost (pos 0) ≡ u → some r ≡ o
       go true k =
           let z : some r ≡ some (pick n) = rw k at s in
-          z ∙ sym (one-length n h ∙ rw k refl)
+          z ∙ sym (q ∙ one-length n h ∙ rw k refl)
       go false k = let z : some r ≡ none = rw k at s in absurd (some-ne-none r z)
 
   -- where it gives none, what comes next is what the longer ones give
-  pub length-passed : (n : ℕ) (b : Found Join) → n ≤ count → join_found b ≡ where_below (pick n) → is_some b ≡ false → from_length n ≡ from_length (n + 1)
-  length-passed n (Some r) h s t = absurd (false≢true (sym t))
-  length-passed n None h s t = go (lt_z (pick n).cost (pos 0)) refl
+  pub length-passed : (n : ℕ) (o : Option Join) (b : Found Join) → o ≡ from_length n → n ≤ count → join_found b ≡ where_below (pick n) → is_some b ≡ false → o ≡ from_length (n + 1)
+  length-passed n o (Some r) q h s t = absurd (false≢true (sym t))
+  length-passed n o None q h s t = go (lt_z (pick n).cost (pos 0)) refl
     where
-      go : (u : Bool) → lt_z (pick n).cost (pos 0) ≡ u → from_length n ≡ from_length (n + 1)
+      go : (u : Bool) → lt_z (pick n).cost (pos 0) ≡ u → o ≡ from_length (n + 1)
       go true k = let z : none ≡ some (pick n) = rw k at s in absurd (none-ne-some (pick n) z)
-      go false k = one-length n h ∙ rw k refl
+      go false k = q ∙ one-length n h ∙ rw k refl
 
-  pub no_length : (n : ℕ) → count < n → from_length n ≡ none
+  pub no_length : (n : ℕ) (o : Option Join) → o ≡ from_length n → count < n → none ≡ o
   unfolding first_that numbers
-  no_length n h = let q : suc count - n ≡ 0 = omega arith in rw q refl
+  no_length n o q h = let z : suc count - n ≡ 0 = omega arith in sym (q ∙ rw z refl)
 
 pub from-two : (e : Closeness) (read : Reader) (all : List Segment) (round : Bool) (count : ℕ)
     → next_among e read all round count ≡ from_length (λ n. cheapest e read all (last_start round count n) n) count 2

@@ -38,7 +38,7 @@ fn by_costs(i: usize, len: usize, rise: i64, fall: i64) -> Join
 {
     Join {
         first: i,
-        len: len,
+        len,
         rise: rise < fall,
         cost: rise.min(fall),
     }

@@ -1,10 +1,10 @@
 -- A run lower than the best so far takes its place; a run of the same cost does not. Assumes nothing.
-use Rattle.std.proofs.Common.{◌≡◌, suc, ◌∙◌, ap, arith}
+use Rattle.std.proofs.Common.{◌≡◌, suc, arith}
 use Rattle.verdict.proofs.Machine.{handed-back}
 use Rattle.segmentation.specs.Joining.{line_reader, last_start}
 use Rattle.segmentation.specs.Held.{segments_held}
 use Rattle.segmentation.specs.Runs.{held_count}
-use Rattle.segmentation.proofs.Searching.{run_from, so_far, searched-none, searched-taken, searched-left, searched-to, same-run, run-held, known-held}
+use Rattle.segmentation.proofs.Searching.{searched-none, searched-taken, searched-left, searched-to, same-run, run-held, known-held}
 use Rattle.segmentation.proofs.Segments.cheapest_below.Goals as goal
 use Rattle.segmentation.proofs.Segments.cheapest_below.Goals.{then-next-least, else-next-least}
 
@@ -32,5 +32,4 @@ returns g c =
     let all = segments_held s.separators s.peaks 0 (held_count a.among.round s.count) in
     let last = last_start a.among.round s.count a.len in
     let q : c.loop-i.i ≡ suc last = omega (arith, c.start_count-end.ensures, c.first_start-from.ensures, known-held a.among.round s.count a.among.known a.len c.requires.le_len.3 c.requires.le_len.0 c.requires.le_len.1) in
-    c.loop-i.invariant.same ∙ ap (so_far (run_from a.closeness a.h.now s.separators s.peaks a.among.round s.count a.len)) q
-    ∙ searched-to a.closeness (line_reader a.h.now) all last a.len
+    searched-to a.closeness (line_reader a.h.now) all last a.len c.loop-i.i c.loop-i.best _ c.loop-i.invariant q

@@ -15,12 +15,12 @@ loop-len-init g c =
 pub returns-then-is_some : goal.returns-then-is_some
 returns-then-is_some g c =
     let b = c.cheapest_below-best in
-    length_found _ _ c.loop-len.len b.result (omega arith) b.ensures (sym c.is_some.ensures ∙ c.if-is_some.true) ∙ sym c.loop-len.invariant
+    length_found _ _ c.loop-len.len _ b.result c.loop-len.invariant (omega arith) b.ensures (sym c.is_some.ensures ∙ c.if-is_some.true)
 
 pub loop-len-preserved : goal.loop-len-preserved
 loop-len-preserved g c =
     let b = c.cheapest_below-best in
-    c.loop-len.invariant ∙ length-passed _ _ c.loop-len.len b.result (omega arith) b.ensures (sym c.is_some.ensures ∙ c.if-is_some.false)
+    length-passed _ _ c.loop-len.len _ b.result c.loop-len.invariant (omega arith) b.ensures (sym c.is_some.ensures ∙ c.if-is_some.false)
 
 pub returns : goal.returns
-returns g c = sym (c.loop-len.invariant ∙ no_length _ _ c.loop-len.len (omega arith))
+returns g c = no_length _ _ c.loop-len.len _ c.loop-len.invariant (omega arith)
