@@ -4,7 +4,6 @@ use mathlib.Core.Path.{◌≡◌, refl, sym, ap, ap₂, ◌∙◌}
 use mathlib.Core.Bool.{Bool, true, false, cond}
 use mathlib.Core.List.{List, [], ◌∷◌, ◌++◌, map, flat_map, append_assoc}
 use native.Mathlib.Omega.{arith}
-use lib.Dec.{leb}
 use lib.ListN.{length, take, drop, get_or, length-map, length-append, length-take, length-drop, take-append-drop, get_or-append}
 use lib.Seq.{length-take-le, take-length, take-append_seam, drop-append-add, get_or-take, get_or-drop}
 use borrow.Author.Tests.{leb-true}
@@ -124,7 +123,3 @@ module _ (e : Closeness) (ps : List Pixel) where
       go : (t : Bool) → fits e ps ≡ t → take (cond t (length (entries e ps)) 0) zs ≡ map f (cond t (branches e ps) [])
       go true t = rw (entries-length e ps) (first (all_held t))
       go false t = refl
-
-pub held-few : (n : ℕ) → held_of n ≤ most_entries
-unfolding held_of
-held-few n = by_cond (λ (k : ℕ). k ≤ most_entries) (leb n most_entries) n 0 (λ t. leb-true n most_entries t) (λ t. omega arith)

@@ -84,8 +84,8 @@ fn label_range(numbers: &[u16], label: u16, labels: &mut [u16])
     requires { AllBelow numbers.now (length labels.old) }
     ensures { labels.new ≡ labelled label numbers.now labels.old }
 {
-    for number in numbers {
-        labels[*number as usize] = label;
+    for at in numbers {
+        labels[*at as usize] = label;
     }
 }
 
