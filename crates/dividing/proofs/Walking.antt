@@ -13,7 +13,6 @@ use Rattle.lists.proofs.Sums.{total-more, total-take-le}
 use Rattle.lists.proofs.Places.{map_at}
 use Rattle.pixel.specs.declared.Pixel.{Pixel}
 use Rattle.verdict.specs.Test.{Closeness}
-use Rattle.verdict.specs.Settings.{closeness_of}
 use Rattle.palette.specs.Levels.{Level, bin_count}
 use Rattle.palette.specs.Cards.{pixels_of}
 use Rattle.dividing.specs.Sorted.{code_count, mode_base, AllBelow, tally}
@@ -46,29 +45,28 @@ left-few (Some variant.Hue) = omega arith
 left-few (Some variant.Saturation) = omega arith
 left-few (Some variant.Intensity) = omega arith
 
-module _ (node : Node) (bytes order sizes sorted : List ℕ) (n : ℕ) (s : RangeSorted (closeness_of node.setting) (pixels_of bytes) (level_at (left_of node.next)) order sizes sorted n) where
+module _ (node : Node) (bytes order sizes sorted : List ℕ) (n : ℕ) (s : RangeSorted node.closeness (pixels_of bytes) (level_at (left_of node.next)) order sizes sorted n) where
   pub few-modes : n ≤ mode_base
-  few-modes = omega (arith, s.modes, modes-in-base (closeness_of node.setting) (pixels_of bytes) (level_at (left_of node.next)) (bins_of (pixels_of bytes) (level_at (left_of node.next)) order))
+  few-modes = omega (arith, s.modes, modes-in-base node.closeness (pixels_of bytes) (level_at (left_of node.next)) (bins_of (pixels_of bytes) (level_at (left_of node.next)) order))
 
   pub modes-fit : n ≤ length sizes
-  modes-fit = omega (arith, few-modes, ap length s.counts, tally-length mode_base (marks_of (closeness_of node.setting) (level_at (left_of node.next)) (bins_of (pixels_of bytes) (level_at (left_of node.next)) order)))
+  modes-fit = omega (arith, few-modes, ap length s.counts, tally-length mode_base (marks_of node.closeness (level_at (left_of node.next)) (bins_of (pixels_of bytes) (level_at (left_of node.next)) order)))
 
   pub split-walkable : (other keys keys' : List ℕ) (found : ℕ) (next' : Option next.Level) → Divisible node bytes order other keys found → left_of node.next ≡ left_of next' + 1 → ((j : ℕ) → get_or bytes j 0 < 256)
       → length sorted ≡ length other → length keys' ≡ length keys
-      → Walkable (record { setting = node.setting; next = next'; code = node.code * mode_base }) (take n sizes) bytes sorted order keys' found
+      → Walkable (record { closeness = node.closeness; next = next'; code = node.code * mode_base }) (take n sizes) bytes sorted order keys' found
   unfolding marks_of
   split-walkable other keys keys' found next' d falls byte other' same =
       let l = level_at (left_of node.next) in
       let bins = bins_of (pixels_of bytes) l order in
-      let ks = marks_of (closeness_of node.setting) l bins in
+      let ks = marks_of node.closeness l bins in
       let long : length (take n sizes) ≡ n = length-take-le n sizes modes-fit in
-      let below : AllBelow ks n = rw s.modes (marks-in (closeness_of node.setting) l bins (keys_below bytes byte l order bins refl)) in
+      let below : AllBelow ks n = rw s.modes (marks-in node.closeness l bins (keys_below bytes byte l order bins refl)) in
       let one : left_of node.next - 1 ≡ left_of next' = omega arith in
       let more : mode_base ^ left_of node.next ≡ mode_base * mode_base ^ left_of next' = rw one at (room-more (left_of node.next) (omega arith)) in
       let times = mul-le-mul_right (mode_base ^ left_of next') few-modes in
       record {
         left = omega (arith, left-few node.next);
-        setting = d.setting;
         room = rw long (omega (arith, d.room));
         codes = rw long (omega (arith, d.codes, ap (λ (j : ℕ). node.code * j) more));
         lists = other' ∙ sym d.lists;
@@ -161,7 +159,7 @@ pub record Walks (node : Node) (parts bytes : List ℕ) (l₀ : Lists) (m at : �
   pub other_long : length l.other ≡ length l₀.other
   pub keys_long : length l.keys ≡ length l₀.keys
   pub ahead : drop at l.order ≡ drop at l₀.order
-  pub walked_so : Kept (walked (closeness_of node.setting) (pixels_of bytes) (left_of node.next) node.code (take m parts) (take at l₀.order)) l₀.found l.found
+  pub walked_so : Kept (walked node.closeness (pixels_of bytes) (left_of node.next) node.code (take m parts) (take at l₀.order)) l₀.found l.found
       (resting (left_of node.next) (take at l.order) (take at l.other))
 
 resting-none : (n : ℕ) → resting n [] [] ≡ []
@@ -182,7 +180,7 @@ module _ (node : Node) (parts bytes : List ℕ) (l₀ : Lists) (d : Walkable nod
   }
 
   module _ (m at : ℕ) (l : Lists) (w : Walks node parts bytes l₀ m at l) where
-    pub walks-all : length parts ≤ m → Kept (walked (closeness_of node.setting) (pixels_of bytes) (left_of node.next) node.code parts l₀.order) l₀.found l.found (resting (left_of node.next) l.order l.other)
+    pub walks-all : length parts ≤ m → Kept (walked node.closeness (pixels_of bytes) (left_of node.next) node.code parts l₀.order) l₀.found l.found (resting (left_of node.next) l.order l.other)
     walks-all end =
         let all = take_all m parts end in
         let over : at ≡ length l₀.order = w.start ∙ ap total all ∙ d.whole in
@@ -201,7 +199,7 @@ module _ (node : Node) (parts bytes : List ℕ) (l₀ : Lists) (d : Walkable nod
           let long = length-take-le (at + get_or parts m 0 - at) (drop at l.order) (omega (arith, walks-fit, w.order_long, length-drop at l.order)) in
           rw (get_or-take (at + get_or parts m 0 - at) (drop at l.order) i 0 (omega arith), w.ahead, get_or-drop at l₀.order i 0) (d.inside (at + i) (omega (arith, walks-fit)))
 
-      pub walks-divisible : Divisible (record { setting = node.setting; next = node.next; code = node.code + m }) bytes
+      pub walks-divisible : Divisible (record { closeness = node.closeness; next = node.next; code = node.code + m }) bytes
           (take (at + get_or parts m 0 - at) (drop at l.order)) (take (at + get_or parts m 0 - at) (drop at l.other)) l.keys l.found.count
       walks-divisible =
           let s = get_or parts m 0 in
@@ -209,10 +207,9 @@ module _ (node : Node) (parts bytes : List ℕ) (l₀ : Lists) (d : Walkable nod
           let second = part-long at s l.other (omega (arith, walks-fit, w.other_long, d.lists)) in
           let some : m + 1 ≤ length parts = omega arith in
           let codes : node.code + m + 1 ≤ node.code + length parts = omega arith in
-          let few = walked-few (closeness_of node.setting) (pixels_of bytes) (left_of node.next) node.code (take m parts) (take at l₀.order) in
+          let few = walked-few node.closeness (pixels_of bytes) (left_of node.next) node.code (take m parts) (take at l₀.order) in
           let many = ap (λ (j : ℕ). j * mode_base ^ (left_of node.next)) (length-take-le m parts (omega arith)) in
           record {
-            setting = d.setting;
             room = omega (arith, d.room, w.walked_so.count, few, many, mul-le-mul_right (mode_base ^ (left_of node.next)) some);
             codes = omega (arith, d.codes, mul-le-mul_right (mode_base ^ (left_of node.next)) codes);
             lists = first ∙ sym second;
@@ -225,7 +222,7 @@ module _ (node : Node) (parts bytes : List ℕ) (l₀ : Lists) (d : Walkable nod
       -- the next mode split, in parts of the two lists
       pub walks_more : (u v keys : List ℕ) (found : Found) → length u ≡ length (take (at + get_or parts m 0 - at) (drop at l.order))
           → length v ≡ length (take (at + get_or parts m 0 - at) (drop at l.other)) → length keys ≡ length l.keys
-          → Kept (leaves (closeness_of node.setting) (pixels_of bytes) (left_of node.next) (node.code + m) (take (at + get_or parts m 0 - at) (drop at l.order))) l.found found (resting (left_of node.next) u v)
+          → Kept (leaves node.closeness (pixels_of bytes) (left_of node.next) (node.code + m) (take (at + get_or parts m 0 - at) (drop at l.order))) l.found found (resting (left_of node.next) u v)
           → Walks node parts bytes l₀ (m + 1) (at + get_or parts m 0)
           (record { order = put_mid at (at + get_or parts m 0 - at) l.order u; other = put_mid at (at + get_or parts m 0 - at) l.other v; keys = keys; found = found })
       walks_more u v keys found lu lv lk r =
@@ -239,10 +236,10 @@ module _ (node : Node) (parts bytes : List ℕ) (l₀ : Lists) (d : Walkable nod
           let long : length (take s (drop at xs)) ≡ s = ap length (sym own) ∙ part-long at s l.order fit in
           let many : length (take m parts) ≡ m = length-take-le m parts (omega arith) in
           let leads : total (take m parts) ≡ length (take at xs) = sym w.start ∙ sym (length-take-le at xs (omega (arith, walks-fit))) in
-          let all : walked (closeness_of node.setting) (pixels_of bytes) (left_of node.next) node.code (take (m + 1) parts) (take (at + s) xs)
-          ≡ walked (closeness_of node.setting) (pixels_of bytes) (left_of node.next) node.code (take m parts) (take at xs) ++ leaves (closeness_of node.setting) (pixels_of bytes) (left_of node.next) (node.code + m) (take s (drop at xs)) =
-          ap₂ (walked (closeness_of node.setting) (pixels_of bytes) (left_of node.next) node.code) more' (take-add at s xs) ∙ walked-last (closeness_of node.setting) (pixels_of bytes) (left_of node.next) node.code (take m parts) s (take at xs) (take s (drop at xs)) leads long
-          ∙ ap (λ (j : ℕ). walked (closeness_of node.setting) (pixels_of bytes) (left_of node.next) node.code (take m parts) (take at xs) ++ leaves (closeness_of node.setting) (pixels_of bytes) (left_of node.next) (node.code + j) (take s (drop at xs))) many in
+          let all : walked node.closeness (pixels_of bytes) (left_of node.next) node.code (take (m + 1) parts) (take (at + s) xs)
+          ≡ walked node.closeness (pixels_of bytes) (left_of node.next) node.code (take m parts) (take at xs) ++ leaves node.closeness (pixels_of bytes) (left_of node.next) (node.code + m) (take s (drop at xs)) =
+          ap₂ (walked node.closeness (pixels_of bytes) (left_of node.next) node.code) more' (take-add at s xs) ∙ walked-last node.closeness (pixels_of bytes) (left_of node.next) node.code (take m parts) s (take at xs) (take s (drop at xs)) leads long
+          ∙ ap (λ (j : ℕ). walked node.closeness (pixels_of bytes) (left_of node.next) node.code (take m parts) (take at xs) ++ leaves node.closeness (pixels_of bytes) (left_of node.next) (node.code + j) (take s (drop at xs))) many in
           let rests : resting (left_of node.next) (take (at + s) (put_mid at (at + s - at) l.order u)) (take (at + s) (put_mid at (at + s - at) l.other v))
           ≡ resting (left_of node.next) (take at l.order) (take at l.other) ++ resting (left_of node.next) u v =
           ap₂ (resting (left_of node.next)) (put_front at s l.order u fit lu) (put_front at s l.other v fit' lv) ∙ resting-both (left_of node.next) (take at l.order) u (take at l.other) v in

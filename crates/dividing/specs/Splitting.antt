@@ -12,7 +12,6 @@ use Rattle.lists.specs.Lists.{total, numbers, first_index, filter}
 use Rattle.pixel.specs.declared.Pixel.{Pixel}
 use Rattle.pixel.specs.Colour.{is_grey}
 use Rattle.verdict.specs.Test.{Closeness}
-use Rattle.verdict.specs.Settings.{last_setting}
 use Rattle.palette.specs.Levels.{Level, hue, saturation, intensity, bin_count, bin_of, modes_at, lies_in}
 use Rattle.palette.specs.Cards.{Branch, pixels_of}
 use Rattle.palette.specs.Sound.{pixel_at, most_pixels}
@@ -119,7 +118,6 @@ Kept ls before after sorted = Split ls before.count (codes_of before.ranges) (si
 -- a range can be split at the levels left: however many entries it gives after those found, their count and codes stay small; each number is a pixel's, a coloured one's where
 -- hue comes next; and `other` and `keys` have room for as many
 pub record Divisible (node : Node) (bytes order other keys : List ℕ) (found : ℕ) : Type 0 where
-  pub setting : node.setting ≤ last_setting
   pub room : found + mode_base ^ left_of node.next ≤ 2 ^ 32
   pub codes : (node.code + 1) * mode_base ^ left_of node.next ≤ code_count
   pub lists : length order ≡ length other
@@ -131,7 +129,6 @@ pub record Divisible (node : Node) (bytes order other keys : List ℕ) (found : 
 -- the modes of a level, of the sizes `parts`, can be split one after the other
 pub record Walkable (node : Node) (parts bytes order other keys : List ℕ) (found : ℕ) : Type 0 where
   pub left : left_of node.next ≤ 2
-  pub setting : node.setting ≤ last_setting
   pub room : found + length parts * mode_base ^ left_of node.next ≤ 2 ^ 32
   pub codes : (node.code + length parts) * mode_base ^ left_of node.next ≤ code_count
   pub lists : length order ≡ length other

@@ -1,6 +1,5 @@
 // All pixels divided: the greys by intensity, the colours by hue, saturation and intensity.
 ghost use Rattle.std.specs.Prelude.{◌≡◌, ◌≤◌, ◌*◌, length};
-ghost use Rattle.verdict.specs.Settings.{last_setting, closeness_of};
 ghost use Rattle.palette.specs.Cards.{pixels_of, most_entries};
 ghost use Rattle.palette.specs.Sound.{most_pixels};
 ghost use Rattle.dividing.specs.Splitting.{left_of, resting, Kept, Divisible};
@@ -10,6 +9,7 @@ use crate::Node;
 use crate::keeping::Found;
 use crate::kinds::sort_kinds;
 use crate::levels::{Level, split};
+use verdict::Closeness;
 
 // The kinds, by the first digit of a code.
 #[derive(Clone, Copy)]
@@ -28,7 +28,7 @@ fn split_some(
     found: &mut Found,
 )
     requires { Divisible node pixels.now order.old other.old keys.old found.old.count }
-    ensures { Kept (leaves_some (closeness_of node.setting) (pixels_of pixels.now) (left_of node.next) node.code order.old) found.old found.new
+    ensures { Kept (leaves_some node.closeness (pixels_of pixels.now) (left_of node.next) node.code order.old) found.old found.new
         (resting (left_of node.next) order.new other.new) }
 {
     if order.len() != 0 {
@@ -40,21 +40,20 @@ fn split_some(
 // The greys' numbers stand at the front of `order` and are sorted into the end of `other`; the colours' stand at the front of `other` and are sorted into the end of `order`.
 pub fn divide_pixels(
     pixels: &[u8],
-    setting: u32,
+    closeness: Closeness,
     order: &mut [u16],
     other: &mut [u16],
     keys: &mut [u8],
     found: &mut Found,
 )
-    requires { (length pixels.now ≡ 3 * length order.old) × (length order.old ≡ length other.old) × (length keys.old ≡ length order.old) × (length order.old ≤ most_pixels)
-        × (setting ≤ last_setting) }
-    ensures { PixelsDivided (closeness_of setting) (pixels_of pixels.now) found.old found.new order.new × (length found.old.ranges ≡ most_entries) }
+    requires { (length pixels.now ≡ 3 * length order.old) × (length order.old ≡ length other.old) × (length keys.old ≡ length order.old) × (length order.old ≤ most_pixels) }
+    ensures { PixelsDivided closeness (pixels_of pixels.now) found.old found.new order.new × (length found.old.ranges ≡ most_entries) }
 {
     found.count = 0;
     let greys = sort_kinds(pixels, order, other);
     let colours = order.len() - greys;
     let grey = Node {
-        setting,
+        closeness,
         next: Some(Level::Intensity),
         code: Kind::Grey as u32,
     };
@@ -67,7 +66,7 @@ pub fn divide_pixels(
         found,
     );
     let colour = Node {
-        setting,
+        closeness,
         next: Some(Level::Hue),
         code: Kind::Colour as u32,
     };

@@ -4,6 +4,8 @@
 ghost use Rattle.std.specs.Prelude.{◌≡◌, ◌≤◌, take};
 ghost use Rattle.dividing.specs.Sorted.{mode_base};
 
+use verdict::Closeness;
+
 mod divide;
 mod keeping;
 mod kinds;
@@ -22,10 +24,10 @@ pub const MODE_BASE: u32 = 64;
 
 const MODES: usize = MODE_BASE as usize;
 
-// A range that may still be divided: the level that comes next, if one is left, and the code so far (its kind and the modes chosen).
+// A range that may still be divided, at a closeness: the level that comes next, if one is left, and the code so far (its kind and the modes chosen).
 #[derive(Clone, Copy)]
 pub struct Node {
-    pub setting: u32,
+    pub closeness: Closeness,
     pub next: Option<Level>,
     pub code: u32,
 }

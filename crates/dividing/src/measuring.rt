@@ -4,7 +4,6 @@ ghost use Rattle.lists.specs.Lists.{total};
 ghost use Rattle.pixel.specs.declared.Pixel.{Pixel};
 ghost use Rattle.pixel.specs.Colour.{is_grey};
 ghost use Rattle.pixel.specs.Root.{Rooted, root_count};
-ghost use Rattle.verdict.specs.Settings.{last_setting, closeness_of};
 ghost use Rattle.palette.specs.Levels.{Level, hue, saturation, intensity, bin_count, bin_of};
 ghost use Rattle.palette.specs.Cards.{pixels_of};
 ghost use Rattle.palette.specs.Sound.{pixel_at, most_pixels};
@@ -16,6 +15,7 @@ use pixel::{
     HUES, INTENSITIES, Pixel, ROOTS, SATURATIONS, hue_of, intensity_bin, roots, saturation_by,
     turned_back,
 };
+use verdict::Closeness;
 
 // A measure by which the pixels of a range are divided: the bin of each, and the modes of the bins' histogram.
 pub trait Measure<const BINS: usize> {
@@ -30,9 +30,9 @@ pub trait Measure<const BINS: usize> {
         ensures { result ≡ bin_of level p };
 
     // How many modes there are, and each bin's.
-    fn modes(&self, h: &[u32], setting: u32, modes: &mut [u8]) -> usize
-        requires { (length h.now ≡ bin_count level) × (total h.now ≤ most_pixels) × (setting ≤ last_setting) × (length modes.old ≡ bin_count level) }
-        ensures { BinsNumbered (closeness_of setting) level h.now modes.new result };
+    fn modes(&self, h: &[u32], closeness: Closeness, modes: &mut [u8]) -> usize
+        requires { (length h.now ≡ bin_count level) × (total h.now ≤ most_pixels) × (length modes.old ≡ bin_count level) }
+        ensures { BinsNumbered closeness level h.now modes.new result };
 
     ghost bins: { BINS ≡ bin_count level };
 }
@@ -52,8 +52,8 @@ impl Measure<HUES> for Hue {
         hue_of(turned_back(p))
     }
 
-    fn modes(&self, h: &[u32], setting: u32, modes: &mut [u8]) -> usize {
-        hue_modes(h, setting, modes)
+    fn modes(&self, h: &[u32], closeness: Closeness, modes: &mut [u8]) -> usize {
+        hue_modes(h, closeness, modes)
     }
 }
 
@@ -81,8 +81,8 @@ impl Measure<SATURATIONS> for Saturation {
         saturation_by(&self.roots, p)
     }
 
-    fn modes(&self, h: &[u32], setting: u32, modes: &mut [u8]) -> usize {
-        line_modes(h, setting, modes)
+    fn modes(&self, h: &[u32], closeness: Closeness, modes: &mut [u8]) -> usize {
+        line_modes(h, closeness, modes)
     }
 }
 
@@ -100,8 +100,8 @@ impl Measure<INTENSITIES> for Intensity {
         intensity_bin(p)
     }
 
-    fn modes(&self, h: &[u32], setting: u32, modes: &mut [u8]) -> usize {
-        line_modes(h, setting, modes)
+    fn modes(&self, h: &[u32], closeness: Closeness, modes: &mut [u8]) -> usize {
+        line_modes(h, closeness, modes)
     }
 }
 

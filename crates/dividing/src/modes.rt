@@ -1,7 +1,6 @@
 // The modes that the bins of a histogram lie in.
 ghost use Rattle.std.specs.Prelude.{◌≡◌, ◌+◌, ◌≤◌, ◌<◌, length};
 ghost use Rattle.lists.specs.Lists.{total};
-ghost use Rattle.verdict.specs.Settings.{last_setting, closeness_of};
 ghost use Rattle.palette.specs.Levels.{hue, saturation, intensity, bin_count};
 ghost use Rattle.palette.specs.Sound.{most_pixels};
 ghost use Rattle.dividing.specs.Sorted.{mode_base};
@@ -10,6 +9,7 @@ ghost use Rattle.dividing.specs.Numbering.{Rises, ModeBefore, ModeAt, PlacesNumb
 use pixel::{HUES, INTENSITIES};
 use rings::ring_modes;
 use segmentation::line_separators;
+use verdict::Closeness;
 
 // The mode after mode m of so many: after the last comes the first, round the ring.
 fn mode_after(m: usize, count: usize) -> usize
@@ -48,23 +48,23 @@ fn number_bins(separators: &[u32], opening: usize, modes: &mut [u8])
 }
 
 // The modes of a line of bins: how many there are, and each bin's.
-pub fn line_modes(h: &[u32], setting: u32, modes: &mut [u8]) -> usize
-    requires { (2 ≤ length h.now) × (length h.now ≤ bin_count intensity) × (total h.now ≤ most_pixels) × (setting ≤ last_setting) × (length modes.old ≡ length h.now) }
-    ensures { LineNumbered (closeness_of setting) h.now modes.new result }
+pub fn line_modes(h: &[u32], closeness: Closeness, modes: &mut [u8]) -> usize
+    requires { (2 ≤ length h.now) × (length h.now ≤ bin_count intensity) × (total h.now ≤ most_pixels) × (length modes.old ≡ length h.now) }
+    ensures { LineNumbered closeness h.now modes.new result }
 {
     let mut separators = [0u32; INTENSITIES];
-    let n = line_separators(h, setting, &mut separators) as usize - 1;
+    let n = line_separators(h, closeness, &mut separators) as usize - 1;
     number_bins(&separators[..n], 0, modes);
     n
 }
 
 // The hue bins are a ring.
-pub fn hue_modes(h: &[u32], setting: u32, modes: &mut [u8]) -> usize
-    requires { (length h.now ≡ bin_count hue) × (total h.now ≤ most_pixels) × (setting ≤ last_setting) × (length modes.old ≡ bin_count hue) }
-    ensures { BinsNumbered (closeness_of setting) hue h.now modes.new result }
+pub fn hue_modes(h: &[u32], closeness: Closeness, modes: &mut [u8]) -> usize
+    requires { (length h.now ≡ bin_count hue) × (total h.now ≤ most_pixels) × (length modes.old ≡ bin_count hue) }
+    ensures { BinsNumbered closeness hue h.now modes.new result }
 {
     let mut places = [0u32; HUES];
-    let found = ring_modes(h, setting, &mut places);
+    let found = ring_modes(h, closeness, &mut places);
     let n = found.modes;
     number_bins(&places[..n], found.opening, modes);
     n

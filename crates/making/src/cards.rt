@@ -1,6 +1,5 @@
 // The card of an image: its entries, and the label of each pixel.
 ghost use Rattle.std.specs.Prelude.{◌≡◌, ◌≤◌, ◌<◌, ◌*◌, ◌/◌, MatchOption, length, take};
-ghost use Rattle.verdict.specs.Settings.{last_setting, closeness_of};
 ghost use Rattle.lists.specs.Lists.{padded};
 ghost use Rattle.palette.specs.Cards.{pixels_of, most_entries, no_entry};
 ghost use Rattle.palette.specs.Sound.{most_pixels};
@@ -11,6 +10,7 @@ use crate::CardEntries;
 use crate::entries::{entries_of, write_labels};
 use dividing::{CodedRange, Found, divide_pixels};
 use palette::{Entry, MOST_ENTRIES, MOST_PIXELS, no_entries};
+use verdict::Closeness;
 
 // What the entries of an image of at most N pixels are made in: five bytes for each pixel, and the entries that are found. The pixels' numbers are left in `order`, entry by entry.
 #[derive(Drop)]
@@ -60,19 +60,19 @@ fn held_entries(pixels: &[u8], numbers: &[u16], found: &Found) -> [Entry; MOST_E
 // The entries, in scratch with a place or more for each pixel. With too many no entry is made.
 pub fn make_entries<const N: usize>(
     pixels: &[u8],
-    setting: u32,
+    closeness: Closeness,
     scratch: &mut Scratch<N>,
 ) -> CardEntries
-    requires pixels_len { (length pixels.now ≡ 3 * (length pixels.now / 3)) × (length pixels.now ≤ 3 * most_pixels) × (setting ≤ last_setting) }
+    requires pixels_len { (length pixels.now ≡ 3 * (length pixels.now / 3)) × (length pixels.now ≤ 3 * most_pixels) }
     requires pixels_in_bounds { length pixels.now / 3 ≤ N }
-    ensures { (result ≡ card_entries (closeness_of setting) (pixels_of pixels.now))
-        × PixelsLaid (closeness_of setting) (pixels_of pixels.now) scratch.new.order (sizes_of scratch.new.found.ranges)
+    ensures { (result ≡ card_entries closeness (pixels_of pixels.now))
+        × PixelsLaid closeness (pixels_of pixels.now) scratch.new.order (sizes_of scratch.new.found.ranges)
         × (result.total ≡ scratch.new.found.count) }
 {
     let n = pixels.len() / 3;
     divide_pixels(
         pixels,
-        setting,
+        closeness,
         &mut scratch.order[..n],
         &mut scratch.other[..n],
         &mut scratch.keys[..n],
@@ -85,13 +85,13 @@ pub fn make_entries<const N: usize>(
 }
 
 // The entries and the labels, in scratch that is made here. With too many entries the labels stay as lent.
-pub fn make_card(pixels: &[u8], setting: u32, labels: &mut [u16]) -> CardEntries
-    requires { (length pixels.now ≡ 3 * length labels.old) × (length labels.old ≤ most_pixels) × (setting ≤ last_setting) }
-    ensures { (result ≡ card_entries (closeness_of setting) (pixels_of pixels.now))
-        × (labels.new ≡ labels_left (closeness_of setting) (pixels_of pixels.now) labels.old) }
+pub fn make_card(pixels: &[u8], closeness: Closeness, labels: &mut [u16]) -> CardEntries
+    requires { (length pixels.now ≡ 3 * length labels.old) × (length labels.old ≤ most_pixels) }
+    ensures { (result ≡ card_entries closeness (pixels_of pixels.now))
+        × (labels.new ≡ labels_left closeness (pixels_of pixels.now) labels.old) }
 {
     let mut scratch = Scratch::<MOST_PIXELS>::new();
-    let made = make_entries(pixels, setting, &mut scratch);
+    let made = make_entries(pixels, closeness, &mut scratch);
     if let Some(ranges) = held(&scratch.found) {
         write_labels(&scratch.order, ranges, labels);
     }

@@ -1,6 +1,5 @@
-use Rattle.std.proofs.Common.{◌≡◌, ◌-◌, ◌++◌, ◌∙◌, length, take, drop, sym, arith, rules}
+use Rattle.std.proofs.Common.{◌≡◌, ◌+◌, ◌-◌, ◌++◌, ◌∙◌, ℕ, length, take, drop, sym, arith, rules}
 use Rattle.palette.specs.Cards.{pixels_of, most_entries}
-use Rattle.verdict.specs.Settings.{closeness_of}
 use Rattle.dividing.proofs.Walking.{slice_from, put_from}
 use Rattle.dividing.proofs.Halves.{kinds-laid, greys-long, greys-room, colours-lent, colours-long, colours-room, both-divided, some-few}
 use Rattle.dividing.proofs.divide.divide_pixels.Goals as goal
@@ -17,7 +16,6 @@ split_some-requires c =
     let laid = kinds-laid bytes o t g n c.requires.0 k.auto.greys (k.auto.colours ∙ sym c.requires.1) k.ensures in
     let long = greys-long bytes o t g n laid in
     record {
-      setting = c.requires.4;
       room = omega arith;
       codes = omega arith;
       lists = greys-room bytes o t g n laid;
@@ -42,9 +40,8 @@ split_some-requires-2 c =
     let v = f.new.other in
     let long = colours-long bytes o t g n laid u v f.auto.order f.auto.other in
     let lent = colours-lent bytes o t g n laid u v f.auto.order f.auto.other in
-    let few = some-few (closeness_of c.args.setting) (pixels_of bytes) 1 0 (take g o) in
+    let few = some-few c.args.closeness (pixels_of bytes) 1 0 (take g o) in
     record {
-      setting = c.requires.4;
       room = omega (arith, few, f.ensures.count);
       codes = omega arith;
       lists = colours-room bytes o t g n laid u v f.auto.order f.auto.other;
@@ -72,7 +69,7 @@ returns c =
     let copied : c.copy_from_slice.new.self ≡ slice_from (length o - g) (w ++ drop (length o - g) (put_from (length o - g) t v)) = search rules in
     let room : length c.args.found.now.ranges ≡ 1000 = search rules in (
       both-divided bytes o t g n laid u v f.auto.order f.auto.other w s.new.other s.auto.order s.auto.other c.copy_from_slice.new.self copied
-          (closeness_of c.args.setting) (λ j. let known = c.type_inv.pixels j in omega arith)
+          c.args.closeness (λ j. let known = c.type_inv.pixels j in omega arith)
           _ _ _ _ _ _ f.new.found.count s.new.found.count f.ensures s.ensures,
       room,
     )

@@ -1,7 +1,6 @@
 use Rattle.std.proofs.Common.{◌≡◌, ◌<◌, ◌/◌, ◌∙◌, ℕ, length, drop, get_or, refl, sym, arith, rules}
 use Rattle.std.proofs.Math.ListN.{length-map}
 use Rattle.std.proofs.Math.Seq.{length-take-le}
-use Rattle.verdict.specs.Settings.{closeness_of}
 use Rattle.palette.specs.Cards.{pixels_of, most_entries}
 use Rattle.palette.specs.Sound.{most_pixels}
 use Rattle.palette.proofs.Triples.{pixels-length}
@@ -22,7 +21,7 @@ overflow_cast-result g c =
     let sizes : length (sizes_of f.ranges) ≡ most_entries = length-map f.ranges (λ (r : CodedRange). r.size) ∙ room in
     let wide : length c.args.scratch.now.order ≡ g.row.N = search rules in
     let long : length d.new.order ≡ n = d.auto.order ∙ length-take-le n c.args.scratch.now.order (omega (arith, wide, c.requires.pixels_in_bounds)) in
-    let left = divided-left (closeness_of c.args.setting) (pixels_of c.args.pixels.now) (codes_of f.ranges) (sizes_of f.ranges) (codes_of d.new.found.ranges) (sizes_of d.new.found.ranges)
+    let left = divided-left c.args.closeness (pixels_of c.args.pixels.now) (codes_of f.ranges) (sizes_of f.ranges) (codes_of d.new.found.ranges) (sizes_of d.new.found.ranges)
     d.new.order (drop n c.args.scratch.now.order) d.new.found.count d.ensures.0 codes sizes (long ∙ sym (pixels-length c.args.pixels.now n p.0)) in
     let byte : (j : ℕ) → get_or c.args.pixels.now j 0 < 256 = λ j. let known = c.type_inv.pixels j in omega arith in
     omega (arith, divided-few c.args.pixels.now byte p.0 _ _ _ _ _ left, p.1)
@@ -38,7 +37,7 @@ held_entries-requires g c =
     let sizes : length (sizes_of f.ranges) ≡ most_entries = length-map f.ranges (λ (r : CodedRange). r.size) ∙ room in
     let wide : length c.args.scratch.now.order ≡ g.row.N = search rules in
     let long : length d.new.order ≡ n = d.auto.order ∙ length-take-le n c.args.scratch.now.order (omega (arith, wide, c.requires.pixels_in_bounds)) in
-    let left = divided-left (closeness_of c.args.setting) (pixels_of c.args.pixels.now) (codes_of f.ranges) (sizes_of f.ranges) (codes_of d.new.found.ranges) (sizes_of d.new.found.ranges)
+    let left = divided-left c.args.closeness (pixels_of c.args.pixels.now) (codes_of f.ranges) (sizes_of f.ranges) (codes_of d.new.found.ranges) (sizes_of d.new.found.ranges)
     d.new.order (drop n c.args.scratch.now.order) d.new.found.count d.ensures.0 codes sizes (long ∙ sym (pixels-length c.args.pixels.now n p.0)) in
     let byte : (j : ℕ) → get_or c.args.pixels.now j 0 < 256 = λ j. let known = c.type_inv.pixels j in omega arith in
     figures-laid c.args.pixels.now byte p.0 _ _ _ _ _ left p.1
@@ -54,7 +53,7 @@ returns g c =
     let sizes : length (sizes_of f.ranges) ≡ most_entries = length-map f.ranges (λ (r : CodedRange). r.size) ∙ room in
     let wide : length c.args.scratch.now.order ≡ g.row.N = search rules in
     let long : length d.new.order ≡ n = d.auto.order ∙ length-take-le n c.args.scratch.now.order (omega (arith, wide, c.requires.pixels_in_bounds)) in
-    let left = divided-left (closeness_of c.args.setting) (pixels_of c.args.pixels.now) (codes_of f.ranges) (sizes_of f.ranges) (codes_of d.new.found.ranges) (sizes_of d.new.found.ranges)
+    let left = divided-left c.args.closeness (pixels_of c.args.pixels.now) (codes_of f.ranges) (sizes_of f.ranges) (codes_of d.new.found.ranges) (sizes_of d.new.found.ranges)
     d.new.order (drop n c.args.scratch.now.order) d.new.found.count d.ensures.0 codes sizes (long ∙ sym (pixels-length c.args.pixels.now n p.0)) in
     let byte : (j : ℕ) → get_or c.args.pixels.now j 0 < 256 = λ j. let known = c.type_inv.pixels j in omega arith in
     (card-made c.args.pixels.now byte p.0 _ _ _ _ _ left _ refl c.held_entries.ensures, left.laid, refl)
