@@ -1,109 +1,143 @@
-// The number of a call: that of the first ground that holds, of those that concern the call, or 0 if none holds.
+// The grounds for turning a call down, and the checks of the calls: each answers with the first ground that holds, of those that
+// concern the call.
 #![tactic(auto)]
 
-ghost use Rattle.std.specs.Prelude.{◌≡◌, ◌≤◌, length};
-ghost use Rattle.lists.specs.Lists.{total};
-ghost use Rattle.grounds.specs.Grounds.{bad_closeness, fit_number, verdict_number, modes_number, log_number, asked_number, widen_number};
+ghost use Rattle.std.specs.Prelude.{◌≡◌, ◌≤◌, [], ◌∷◌, length, sum};
+ghost use Rattle.grounds.specs.Grounds.{
+  first_ground,
+  bad_closeness,
+  bad_labels,
+  fit_number,
+  verdict_number,
+  modes_number,
+  log_number,
+  asked_number,
+  widen_number,
+};
+ghost use Rattle.grounds.specs.Checks.{ground_number, number_of, ground_of};
 
 use joinlog::RECORD_NUMBERS;
 use palette::MOST_PIXELS;
+use swatch::Unread;
 use verdict::{LEAST_CLOSENESS, MOST_CLOSENESS};
+
+// The grounds, with the numbers that docs/METHOD.md gives them.
+#[derive(Clone, Copy, PartialEq, Eq)]
+pub enum Ground {
+    Header = 1,
+    Size = 2,
+    Lines = 3,
+    Bytes = 4,
+    Pixels = 5,
+    Bins = 6,
+    Counts = 7,
+    Closeness = 8,
+    Labels = 9,
+    Places = 10,
+    Entries = 11,
+    Log = 20,
+}
+
+impl Ground {
+    pub fn number(self) -> u32
+        ensures { result ≡ ground_number self }
+    {
+        self as u32
+    }
+}
+
+impl From<Unread> for Ground {
+    ghost from_gives = { λ why ground_given. ground_given ≡ ground_of why };
+
+    fn from(why: Unread) -> Ground {
+        match why {
+            Unread::Header => Ground::Header,
+            Unread::Size => Ground::Size,
+            Unread::Lines => Ground::Lines,
+        }
+    }
+}
 
 // The sum of the counts. There are at most 256 of them, so it cannot overflow.
 fn sum(h: &[u32]) -> u64
     requires { length h.now ≤ 256 }
-    ensures { result ≡ total h.now }
+    ensures { result ≡ sum h.now }
 {
-    let mut sum: u64 = 0;
-    let mut i = 0;
-    while i < h.len() {
-        sum += h[i] as u64;
-        i += 1;
-    }
-    sum
+    h.iter().map(|count| u64::from(*count)).sum()
 }
 
-pub fn fit_number(h: &[u32]) -> u32
-    ensures { result ≡ fit_number h.now }
+pub fn check_fit(h: &[u32]) -> Result<(), Ground>
+    ensures { number_of result ≡ fit_number h.now }
 {
-    if h.len() < 2 {
-        return 6;
-    }
-    if 256 < h.len() {
-        return 6;
+    if h.len() < 2 || 256 < h.len() {
+        return Err(Ground::Bins);
     }
     if 65536 < sum(h) {
-        return 7;
+        return Err(Ground::Counts);
     }
-    0
+    Ok(())
 }
 
-// Ground 8.
-fn bad_closeness(closeness: i32) -> bool
-    ensures { result ≡ (bad_closeness closeness).holds }
+fn check_closeness(closeness: i32) -> Result<(), Ground>
+    ensures { number_of result ≡ first_ground (bad_closeness closeness ∷ []) }
 {
-    closeness < LEAST_CLOSENESS || MOST_CLOSENESS < closeness
+    if closeness < LEAST_CLOSENESS || MOST_CLOSENESS < closeness {
+        return Err(Ground::Closeness);
+    }
+    Ok(())
 }
 
-pub fn verdict_number(h: &[u32], closeness: i32) -> u32
-    ensures { result ≡ verdict_number closeness h.now }
+fn check_labels(labels: usize, places: usize) -> Result<(), Ground>
+    ensures { number_of result ≡ first_ground (bad_labels labels places ∷ []) }
 {
-    let number = fit_number(h);
-    if number != 0 {
-        return number;
+    if places != labels {
+        return Err(Ground::Labels);
     }
-    if bad_closeness(closeness) {
-        return 8;
-    }
-    0
+    Ok(())
 }
 
-pub fn modes_number(h: &[u32], closeness: i32, places: usize) -> u32
-    ensures { result ≡ modes_number closeness h.now places }
+pub fn check_verdict(h: &[u32], closeness: i32) -> Result<(), Ground>
+    ensures { number_of result ≡ verdict_number closeness h.now }
 {
-    let number = verdict_number(h, closeness);
-    if number != 0 {
-        return number;
-    }
+    check_fit(h)?;
+    check_closeness(closeness)
+}
+
+pub fn check_modes(h: &[u32], closeness: i32, places: usize) -> Result<(), Ground>
+    ensures { number_of result ≡ modes_number closeness h.now places }
+{
+    check_verdict(h, closeness)?;
     if places < h.len() {
-        return 10;
+        return Err(Ground::Places);
     }
-    0
+    Ok(())
 }
 
-// The number of a call that writes a log into a list of so many numbers.
-pub fn log_number(h: &[u32], closeness: i32, numbers: usize) -> u32
-    ensures { result ≡ log_number closeness h.now numbers }
+// A call that writes a log into a list of so many numbers.
+pub fn check_log(h: &[u32], closeness: i32, numbers: usize) -> Result<(), Ground>
+    ensures { number_of result ≡ log_number closeness h.now numbers }
 {
-    modes_number(h, closeness, numbers / RECORD_NUMBERS)
+    check_modes(h, closeness, numbers / RECORD_NUMBERS)
 }
 
-// The number of a card call, as far as it is known before the entries are found.
-pub fn card_asked(pixels: &[u8], closeness: i32, places: usize) -> u32
-    ensures { result ≡ asked_number closeness pixels.now places }
+// A card call, as far as it can be checked before the entries are found.
+pub fn check_card(pixels: &[u8], closeness: i32, places: usize) -> Result<(), Ground>
+    ensures { number_of result ≡ asked_number closeness pixels.now places }
 {
     let bytes = pixels.len();
-    if bytes == 0 {
-        return 4;
-    }
-    if 0 < bytes % 3 {
-        return 4;
+    if bytes == 0 || 0 < bytes % 3 {
+        return Err(Ground::Bytes);
     }
     if MOST_PIXELS < bytes / 3 {
-        return 5;
+        return Err(Ground::Pixels);
     }
-    if bad_closeness(closeness) {
-        return 8;
-    }
-    if places != bytes / 3 {
-        return 9;
-    }
-    0
+    check_closeness(closeness)?;
+    check_labels(bytes / 3, places)
 }
 
-// The number of a widening of one-byte labels into a list of so many places.
-pub fn widen_number(narrow: &[u8], places: usize) -> u32
-    ensures { result ≡ widen_number narrow.now places }
+// A widening of one-byte labels into a list of so many places.
+pub fn check_widening(narrow: &[u8], places: usize) -> Result<(), Ground>
+    ensures { number_of result ≡ widen_number narrow.now places }
 {
-    if places != narrow.len() { 9 } else { 0 }
+    check_labels(narrow.len(), places)
 }

@@ -1,9 +1,9 @@
 -- What the card call answers and leaves, by its number, and what a widening leaves; making a card twice gives the same card. Assumes nothing.
-use Prim.Native.Nat.{ℕ, ◌*◌, ◌/◌, ◌%◌, ◌≤◌, ◌<◌}
+use Prim.Native.Nat.{ℕ, ◌*◌, ◌-◌, ◌/◌, ◌%◌, ◌≤◌, ◌<◌}
 use mathlib.Core.Path.{◌≡◌, refl, sym, ap, ◌∙◌}
 use mathlib.Core.List.{List, [], ◌∷◌}
 use lib.Dec.{eqb, ltb}
-use lib.ListN.{length, take, get_or, get_or-append}
+use lib.ListN.{length, take, get_or, replicate, get_or-append, length-append, length-replicate}
 use lib.Seq.{take-append_seam}
 use native.Mathlib.Omega.{arith}
 use native.Mathlib.Nat.{div-add-mod}
@@ -165,3 +165,8 @@ as-made e bytes s =
 pub handed-sound : (e : Closeness) (bytes : List ℕ) (len : ℕ) (es : List Entry) (ls : List ℕ) → len ≡ length (entries e (pixels_of bytes))
     → es ≡ padded most_entries no_entry (entries e (pixels_of bytes)) → ls ≡ labels e (pixels_of bytes) → SoundCard e (pixels_of bytes) → SoundAnswer e bytes (made 0 len es) ls
 handed-sound e bytes len es ls n q l s = rw (n, q, l) (as-made e bytes s)
+
+-- ---- as many places as are asked for
+pub padded-length : {A : Type 0} (n : ℕ) (z : A) (xs : List A) → length xs ≤ n → length (padded n z xs) ≡ n
+unfolding padded
+padded-length n z xs few = length-append xs (replicate (n - length xs) z) ∙ omega (arith, length-replicate (n - length xs) z)

@@ -13,6 +13,11 @@ use Rattle.segmentation.specs.Finished.{LineFinished, RingFinished}
 use Rattle.segmentation.proofs.Always.{always-finished, ring-always-finished}
 use Rattle.listing.specs.Listing.{RingOrdered}
 use Rattle.listing.proofs.Always.{ring-always-ordered}
+use Rattle.std.specs.Prelude.{Result, Ok, Err, OnOk}
+use Rattle.grounds.specs.declared.Ground.{Ground}
+use Rattle.grounds.specs.Checks.{ground_number, number_of}
+use Rattle.grounds.proofs.Checks.{ground-some}
+use Rattle.kistrovu.specs.Calls.{modes_given}
 use Rattle.kistrovu.specs.declared.ModesAnswer.{ModesAnswer}
 use Rattle.grounds.specs.Grounds.{modes_number}
 use Rattle.kistrovu.specs.Answers.{served, modes_answer, modes_list}
@@ -77,3 +82,12 @@ module _ (separators_of : Closeness → List ℕ → List ℕ) (e : Closeness) (
       let no : ¬ (number ≡ 0) = λ z. d (same ∙ z) in
       let none = sym (is-turned-down (length (separators_of e h)) 0 no) in
       record { answer = λ i. record { number = same i; separators = none i }; left = sym (is-turned-down (over (separators_of e h) list) list no) }
+
+  -- and where a ground holds
+  pub list-refused : (why : Ground) → ground_number why ≡ number → Listed separators_of e h list number (modes_given (Err why)) list
+  list-refused why q = list-turned-down (ground_number why) q (ground-some why)
+
+-- what holds of what was made holds if the number is 0
+pub served-so : {T : Type 0} (P : Type 0) (r : Result T Ground) → OnOk r P → number_of r ≡ 0 → P
+served-so P (Ok x) p z = p
+served-so P (Err why) p z = absurd (ground-some why z)

@@ -17,14 +17,19 @@ use Rattle.making.specs.declared.CardEntries.{CardEntries}
 use Rattle.making.specs.Making.{card_entries}
 use Rattle.palette.specs.Cards.{pixels_of, entries, most_entries}
 use Rattle.swatch.specs.Input.{header_of, size_of, pixel_bytes, bytes_of}
-use Rattle.swatch.specs.declared.Reading.{Reading}
-use Rattle.swatch.specs.Reading.{most_swatch_pixels, bad_size, swatch_number, reading_of, longest_swatch}
+use Rattle.swatch.specs.Reading.{most_swatch_pixels, bad_size, swatch_number, unread_number, reading_number, reading_of, longest_swatch}
+use Rattle.swatch.proofs.Numbers.{reading-numbered}
 use Rattle.swatch.specs.Output.{printed_card, printed_most}
 use Rattle.swatch.proofs.PrintedLengths.{printed-fits}
 use Rattle.swatch.specs.Written.{written_swatch}
 use Rattle.swatch.proofs.Long.{long-text}
 use Rattle.swatch.proofs.SwatchRead.{swatch-read}
-use Rattle.kistrovu.specs.declared.printing.Outcome.{Outcome}
+use Rattle.std.specs.Prelude.{Result, Ok, Err}
+use Rattle.swatch.specs.declared.Unread.{Unread}
+use Rattle.swatch.specs.declared.Unread.TheVariants.{Header, Size, Lines}
+use Rattle.grounds.specs.declared.Ground.{Ground}
+use Rattle.grounds.specs.Checks.{ground_number, ground_of}
+use Rattle.grounds.proofs.Checks.{ground-some}
 use Rattle.grounds.specs.Grounds.{first_ground, program_closeness, text_number}
 use Rattle.kistrovu.specs.Answers.{printed, printed_bytes, printed_answer}
 use Rattle.kistrovu.specs.Facts.{LongText, PrintedFits, WrittenServed}
@@ -56,15 +61,40 @@ swatch-few text z = go (missing (header_of text)) (bad_size (size_of text)) (mis
     go false false true q y = absurd (omega (arith, y))
     go false false false q y = ltb-false most_swatch_pixels (size_of text) (both_false (eqb (size_of text) 0) (ltb most_swatch_pixels (size_of text)) q).1
 
+-- the ground of a text that reading turns down has its number
+pub unread-number : (text : List ℕ) (why : Unread) → Err why ≡ reading_of text → ground_number (ground_of why) ≡ swatch_number text
+unread-number text why e = go why ∙ ap reading_number e ∙ reading-numbered text
+  where
+    go : (u : Unread) → ground_number (ground_of u) ≡ unread_number u
+    go Header = refl
+    go Size = refl
+    go Lines = refl
+
+-- a text that is read has as many pixels as its size says
+pub read-served : (text : List ℕ) (n : ℕ) → Ok n ≡ reading_of text → (swatch_number text ≡ 0) × (n ≤ most_swatch_pixels)
+unfolding reading_of
+read-served text n e =
+    let z : swatch_number text ≡ 0 = sym (ap reading_number e ∙ reading-numbered text) in
+    let few = swatch-few text z in
+    (z, omega (arith, go (missing (header_of text)) (bad_size (size_of text)) (missing (pixel_bytes text)) e, few))
+  where
+    go : (a b c : Bool) → Ok n ≡ cond a (Err Header) (cond b (Err Size) (cond c (Err Lines) (Ok (size_of text)))) → n ≡ size_of text
+    go true b c q = cc
+    go false true c q = cc
+    go false false true q = cc
+    go false false false q = cc
+
 -- ---- what is printed
 -- nothing, and the buffer stays, where the reading of the text turns it down
-pub text-refused : (text buffer : List ℕ) (n : ℕ) → n ≡ swatch_number text → ¬ (n ≡ 0) → TextPrinted text buffer buffer (record { number = n; len = 0 })
+pub text-refused : (text buffer : List ℕ) (why : Ground) → ground_number why ≡ swatch_number text → TextPrinted text buffer buffer (Err why)
 unfolding printed over
-text-refused text buffer n number some =
+text-refused text buffer why number =
+    let n = ground_number why in
+    let some = ground-some why in
     let is : text_number text ≡ n = text-number text ∙ rw (sym number, ne_eqb n 0 some) refl in
     (record { numbered = sym is; long = rw (is, ne_eqb n 0 some) refl; written = rw (is, ne_eqb n 0 some) refl }, λ z. absurd (some (sym is ∙ z)))
 
-module _ (text before after : List ℕ) (r : Outcome) where
+module _ (text before after : List ℕ) (r : Result ℕ Ground) where
   pub text-made : swatch_number text ≡ 0 → PixelsPrinted (bytes_of text) before after r → TextPrinted text before after r
   unfolding printed many
   text-made z p = go (ltb most_entries (length (entries (pos program_closeness) (pixels_of (bytes_of text))))) refl
@@ -116,10 +146,9 @@ refused-answer text n =
     rw (is, ne_eqb (swatch_number text) 0 n) refl
 
 pub long-text-printed : LongText
-unfolding reading_of
 long-text-printed text l =
     let r = long-text text l in
-    let same : swatch_number (take (suc longest_swatch) text) ≡ swatch_number text = ap (λ (x : Reading). x.number) r.0 in
+    let same : swatch_number (take (suc longest_swatch) text) ≡ swatch_number text = sym (reading-numbered (take (suc longest_swatch) text)) ∙ ap reading_number r.0 ∙ reading-numbered text in
     refused-answer (take (suc longest_swatch) text) (λ z. absurd (omega (arith, z, same, r.1))) ∙ ap (λ (n : ℕ). printed_bytes n []) same
     ∙ sym (refused-answer text (λ z. absurd (omega (arith, z, r.1))))
 

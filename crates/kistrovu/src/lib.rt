@@ -35,6 +35,7 @@ ghost use Rattle.kistrovu.specs.Answers.{
 };
 ghost use Rattle.kistrovu.specs.Facts.{IfServed, AcceptsOnly, SoundAnswer};
 
+use calls::{answered, card, join_log, judge, line_modes, replay, ring_modes, widen};
 use palette::{Entry, MOST_ENTRIES};
 use pixel::{Measures, Pixel};
 use pooling::{Block, Place};
@@ -42,6 +43,7 @@ use std::array;
 use swatch::PRINTED_MOST;
 use verdict::Verdict;
 
+mod calls;
 mod printing;
 
 // 10,000 · major + 100 · minor + patch. Its source is the file VERSION; tools/version writes it here.
@@ -133,7 +135,7 @@ pub fn kistrovu_fit(histogram: &[u32], rising: bool) -> FitAnswer
         block: Block { sum: 0, len: 0 },
     };
     let mut places = [nowhere; 256];
-    let number = grounds::fit_number(histogram);
+    let number = answered(grounds::check_fit(histogram), ()).0;
     if number == 0 {
         pooling::fit_places(histogram, rising, &mut places);
     }
@@ -150,21 +152,12 @@ pub fn kistrovu_verdict(histogram: &[u32], rising: bool, closeness: i32) -> Verd
     ensures { (result ≡ verdict_answer closeness rising histogram.now)
         × IfServed result.number (VerdictSound closeness (direction rising) histogram.now) }
 {
-    let number = grounds::verdict_number(histogram, closeness);
-    if number == 0 {
-        VerdictAnswer {
-            number: 0,
-            verdict: verdict::judge(histogram, rising, verdict::setting_of(closeness)),
-        }
-    } else {
-        VerdictAnswer {
-            number: number,
-            verdict: Verdict {
-                cost: 0,
-                rejected: false,
-            },
-        }
-    }
+    let none = Verdict {
+        cost: 0,
+        rejected: false,
+    };
+    let (number, verdict) = answered(judge(histogram, rising, closeness), none);
+    VerdictAnswer { number, verdict }
 }
 
 // The modes of a line: its separators, rising, in the first places of the list. Grounds 6, 7, 8, 10.
@@ -173,21 +166,8 @@ pub fn kistrovu_line_modes(histogram: &[u32], closeness: i32, separators: &mut [
         × (separators.new ≡ line_list closeness histogram.now separators.old)
         × IfServed result.number (LineFinished closeness histogram.now) }
 {
-    let number = grounds::modes_number(histogram, closeness, separators.len());
-    if number != 0 {
-        return ModesAnswer {
-            number,
-            separators: 0,
-        };
-    }
-    ModesAnswer {
-        number: 0,
-        separators: segmentation::line_separators(
-            histogram,
-            verdict::setting_of(closeness),
-            separators,
-        ),
-    }
+    let (number, separators) = answered(line_modes(histogram, closeness, separators), 0);
+    ModesAnswer { number, separators }
 }
 
 // The modes of a ring, joined all round it: its separators, from the lowest bin number up, in the first places of the list. Grounds 6, 7, 8, 10.
@@ -196,17 +176,8 @@ pub fn kistrovu_ring_modes(histogram: &[u32], closeness: i32, separators: &mut [
         × (separators.new ≡ ring_list closeness histogram.now separators.old)
         × IfServed result.number (RingFinished closeness histogram.now × RingOrdered closeness histogram.now) }
 {
-    let number = grounds::modes_number(histogram, closeness, separators.len());
-    if number != 0 {
-        return ModesAnswer {
-            number,
-            separators: 0,
-        };
-    }
-    ModesAnswer {
-        number: 0,
-        separators: listing::ring_separators(histogram, verdict::setting_of(closeness), separators),
-    }
+    let (number, separators) = answered(ring_modes(histogram, closeness, separators), 0);
+    ModesAnswer { number, separators }
 }
 
 // The joins of a line in turn: the record of each, four numbers, in the first places of the log. Grounds 6, 7, 8, 10.
@@ -215,14 +186,8 @@ pub fn kistrovu_join_log(histogram: &[u32], closeness: i32, log: &mut [i64]) -> 
         × (log.new ≡ log_list closeness histogram.now log.old)
         × IfServed result.number (LogSound closeness histogram.now) }
 {
-    let number = grounds::log_number(histogram, closeness, log.len());
-    if number != 0 {
-        return LogAnswer { number, joins: 0 };
-    }
-    LogAnswer {
-        number: 0,
-        joins: joinlog::line_log(histogram, verdict::setting_of(closeness), log),
-    }
+    let (number, joins) = answered(join_log(histogram, closeness, log), 0);
+    LogAnswer { number, joins }
 }
 
 // The modes of a line, by a log of its joins that may come from anywhere: its separators, rising, in the first places of the list. Grounds 6, 7, 8, 10, 20.
@@ -237,24 +202,8 @@ pub fn kistrovu_replay(
         × AcceptsOnly closeness histogram.now log.now (length separators.old)
         × IfServed result.number (Replayed closeness histogram.now log.now × LineFinished closeness histogram.now) }
 {
-    let number = grounds::modes_number(histogram, closeness, separators.len());
-    if number != 0 {
-        return ModesAnswer {
-            number,
-            separators: 0,
-        };
-    }
-    let replayed = joinlog::replay(histogram, verdict::setting_of(closeness), log, separators);
-    if !replayed.followed {
-        return ModesAnswer {
-            number: 20,
-            separators: 0,
-        };
-    }
-    ModesAnswer {
-        number: 0,
-        separators: replayed.separators,
-    }
+    let (number, separators) = answered(replay(histogram, closeness, log, separators), 0);
+    ModesAnswer { number, separators }
 }
 
 // The card of an image of three bytes a pixel, and the label of each pixel: its entry's number. Grounds 4, 5, 8, 9, 11.
@@ -263,26 +212,11 @@ pub fn kistrovu_card(pixels: &[u8], closeness: i32, labels: &mut [u16]) -> Card
         × (labels.new ≡ label_list closeness pixels.now labels.old)
         × IfServed result.number (SoundAnswer closeness pixels.now result labels.new) }
 {
-    let number = grounds::card_asked(pixels, closeness, labels.len());
-    if number != 0 {
-        return Card {
-            number,
-            len: 0,
-            entries: palette::no_entries(),
-        };
-    }
-    let made = making::make_card(pixels, verdict::setting_of(closeness), labels);
-    let entries = made.entries;
-    if MOST_ENTRIES < made.total as usize {
-        return Card {
-            number: 11,
-            len: 0,
-            entries,
-        };
-    }
+    let mut entries = palette::no_entries();
+    let (number, len) = answered(card(pixels, closeness, labels, &mut entries), 0);
     Card {
-        number: 0,
-        len: made.total,
+        number,
+        len,
         entries,
     }
 }
@@ -292,11 +226,7 @@ pub fn kistrovu_widen_labels(narrow: &[u8], labels: &mut [u16]) -> u32
     ensures { (result ≡ widen_number narrow.now (length labels.old))
         × (labels.new ≡ widened_list narrow.now labels.old) }
 {
-    let number = grounds::widen_number(narrow, labels.len());
-    if number == 0 {
-        labels::widen_labels(narrow, labels);
-    }
-    number
+    answered(widen(narrow, labels), ()).0
 }
 
 // The text of the card of a swatch that is given as text. Grounds 1, 2, 3, 11.
@@ -305,12 +235,8 @@ pub fn kistrovu_print_card(text: &[u8]) -> Printed
         × IfServed result.number (SoundCard (pos program_closeness) (pixels_of (bytes_of text.now))) }
 {
     let mut bytes = [0u8; PRINTED_MOST];
-    let outcome = printing::print(text, &mut bytes);
-    Printed {
-        number: outcome.number,
-        len: outcome.len,
-        bytes,
-    }
+    let (number, len) = answered(printing::print(text, &mut bytes), 0);
+    Printed { number, len, bytes }
 }
 
 // The line that the card program prints for a swatch that is turned down: the number of the ground. The call takes any number, and

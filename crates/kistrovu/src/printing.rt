@@ -7,16 +7,10 @@ ghost use Rattle.swatch.specs.Output.{printed_most};
 ghost use Rattle.swatch.specs.Reading.{most_swatch_pixels};
 ghost use Rattle.kistrovu.specs.Texts.{PixelsPrinted, TextPrinted};
 
+use grounds::Ground;
 use making::CardEntries;
 use palette::MOST_ENTRIES;
 use swatch::MOST_SWATCH_PIXELS;
-
-// The number of a text, and how many bytes are written for it: none for a text that is turned down.
-#[derive(Clone, Copy)]
-pub struct Outcome {
-    pub number: u32,
-    pub len: u32,
-}
 
 // The closeness that every text is worked at, and that is printed.
 const PROGRAM_CLOSENESS: u32 = 0;
@@ -36,47 +30,31 @@ fn swatch_entries(pixels: &[u8], setting: u32) -> CardEntries
     )
 }
 
-// The card of a swatch, printed.
-fn print_pixels(pixels: &[u8], out: &mut [u8]) -> Outcome
+// The card of a swatch, printed: how many bytes it has.
+fn print_pixels(pixels: &[u8], out: &mut [u8]) -> Result<u32, Ground>
     requires { (length pixels.now ≡ 3 * (length pixels.now / 3)) × (length pixels.now ≤ 3 * most_swatch_pixels) × (printed_most ≤ length out.old) }
     ensures { PixelsPrinted pixels.now out.old out.new result }
 {
     let n = pixels.len() / 3;
     let made = swatch_entries(pixels, verdict::setting_of(PROGRAM_CLOSENESS as i32));
-    let entries = made.entries;
     if MOST_ENTRIES < made.total as usize {
-        return Outcome { number: 11, len: 0 };
+        return Err(Ground::Entries);
     }
-    Outcome {
-        number: 0,
-        len: swatch::print_card(
-            entries,
-            made.total as usize,
-            n as u32,
-            PROGRAM_CLOSENESS,
-            out,
-        ) as u32,
-    }
+    let entries = &made.entries[..made.total as usize];
+    Ok(swatch::print_card(n as u32, PROGRAM_CLOSENESS, entries, out) as u32)
 }
 
 // The same in lent scratch for the pixels.
-fn print_in(text: &[u8], pixels: &mut [u8], out: &mut [u8]) -> Outcome
+fn print_in(text: &[u8], pixels: &mut [u8], out: &mut [u8]) -> Result<u32, Ground>
     requires { (length pixels.old ≡ 3 * most_swatch_pixels) × (printed_most ≤ length out.old) }
     ensures { TextPrinted text.now out.old out.new result }
 {
-    let reading = swatch::read(text, pixels);
-    if reading.number != 0 {
-        return Outcome {
-            number: reading.number,
-            len: 0,
-        };
-    }
-    let size = 3 * reading.pixels as usize;
-    print_pixels(&pixels[..size], out)
+    let n = swatch::read(text, pixels)?;
+    print_pixels(&pixels[..3 * n as usize], out)
 }
 
-// Reads the text of a swatch and prints its card into the first places of `out`.
-pub fn print(text: &[u8], out: &mut [u8]) -> Outcome
+// Reads the text of a swatch and prints its card into the first places of `out`: how many bytes it has.
+pub fn print(text: &[u8], out: &mut [u8]) -> Result<u32, Ground>
     requires { printed_most ≤ length out.old }
     ensures { TextPrinted text.now out.old out.new result }
 {

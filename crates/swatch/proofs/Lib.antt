@@ -1,4 +1,6 @@
 pub mod PrintedLengths
+pub mod Given
+pub mod Writing
 pub mod Fields
 pub mod Lines
 pub mod Rows

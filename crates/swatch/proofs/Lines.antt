@@ -8,12 +8,13 @@ use native.Mathlib.Omega.{arith}
 use borrow.Author.Tests.{eqb-true, ne_eqb}
 use lib.Dec.{eqb}
 use lib.ListN.{length, take, drop, get_or, length-take}
-use lib.Seq.{take-take, get_or-take}
-use Rattle.lists.specs.Lists.{maybe}
+use lib.Seq.{take-take, get_or-take, length-take-le}
+use Rattle.std.specs.Array.{IsFirstChunk}
+use Rattle.lists.specs.Lists.{maybe, whole}
 use Rattle.lists.proofs.Connectives.{both_true}
 use Rattle.lists.proofs.Missing.{cond-some, maybe-some}
-use Rattle.swatch.specs.Input.{line_feed, in_front, lines_of, fields_of, header_of, size_of, pixel_line}
-use Rattle.swatch.proofs.Fields.{Clear, clear-fields}
+use Rattle.swatch.specs.Input.{line_feed, in_front, lines_of, field, fields_of, header_of, size_of, pixel_line}
+use Rattle.swatch.proofs.Fields.{Clear, clear-fields, header-fields}
 
 abbrev pub first_line : List ℕ → List ℕ
 first_line text = get_or (lines_of text) 0 []
@@ -71,6 +72,11 @@ header_at text = first-fields 6 2 text refl
 pub header-short : (text : List ℕ) → length text < 13 → header_of text ≡ none
 unfolding fields_of
 header-short text h = header_at text ∙ rw (ne_eqb (length (take 13 text)) 13 (λ e. omega (arith, length-take 13 text)))
+
+-- the first 13 bytes, if they are there, are the header's line
+pub header-is : (text line : List ℕ) → IsFirstChunk text line 13
+    → header_of text ≡ cond (eqb (get_or line 12 0) line_feed) (whole (field (take 6 line) ∷ field (take 6 (drop 6 line)) ∷ [])) none
+header-is text line f = header_at text ∙ ap (fields_of 6 2) (sym f.same) ∙ header-fields line (ap length f.same ∙ length-take-le 13 text f.enough)
 
 pub first-pixel-line : (text : List ℕ) → pixel_line (first_line text) ≡ pixel_line (take 13 text)
 unfolding pixel_line

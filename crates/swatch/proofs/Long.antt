@@ -8,34 +8,39 @@ use native.Mathlib.Omega.{arith}
 use lib.ListN.{length, take}
 use lib.Seq.{take-take, length-take-le}
 use Rattle.lists.specs.Lists.{missing}
-use Rattle.lists.proofs.Cases.{by_cond}
 use Rattle.swatch.specs.Input.{header_of, size_of, pixel_bytes}
-use Rattle.swatch.specs.Reading.{bad_size, swatch_number, reading_of, longest_swatch, LongReading}
+use Rattle.swatch.specs.Reading.{bad_size, reading_number, reading_of, longest_swatch, LongReading}
+use Rattle.swatch.specs.declared.Unread.{Unread}
+use Rattle.swatch.specs.declared.Unread.TheVariants.{Header, Size, Lines}
+use Rattle.std.specs.Prelude.{Result, Ok, Err}
 use Rattle.swatch.proofs.Lines.{header_at}
 use Rattle.swatch.proofs.Rows.{bytes-none}
-use Rattle.swatch.proofs.Numbers.{size_fits}
+use Rattle.swatch.proofs.Numbers.{size_fits, reading-numbered}
 
 -- no size is so large that all lines are pixel lines
 long-none : (text : List ℕ) → longest_swatch < length text → bad_size (size_of text) ≡ false → pixel_bytes text ≡ none
 unfolding longest_swatch
 long-none text h e = let p = size_fits (size_of text) e in bytes-none text p.0 (λ z. omega arith)
 
--- the number of such a text
-abbrev long_number : Option (List ℕ) → ℕ → ℕ
-long_number header pixels = cond (missing header) 1 (cond (bad_size pixels) 2 3)
+-- the answer for such a text
+abbrev long_answer : Option (List ℕ) → ℕ → Result ℕ Unread
+long_answer header pixels = cond (missing header) (Err Header) (cond (bad_size pixels) (Err Size) (Err Lines))
 
-long-number : (text : List ℕ) → longest_swatch < length text → swatch_number text ≡ long_number (header_of text) (size_of text)
-unfolding swatch_number
-long-number text h = ap (λ (n : ℕ). cond (missing (header_of text)) 1 n) (go (bad_size (size_of text)) refl)
+long-answer : (text : List ℕ) → longest_swatch < length text → reading_of text ≡ long_answer (header_of text) (size_of text)
+unfolding reading_of
+long-answer text h = ap (λ (r : Result ℕ Unread). cond (missing (header_of text)) (Err Header) r) (go (bad_size (size_of text)) refl)
   where
-    go : (t : Bool) → bad_size (size_of text) ≡ t → ◌≡◌ {A = ℕ} (cond t 2 (cond (missing (pixel_bytes text)) 3 0)) (cond t 2 3)
+    go : (t : Bool) → bad_size (size_of text) ≡ t → ◌≡◌ {A = Result ℕ Unread} (cond t (Err Size) (cond (missing (pixel_bytes text)) (Err Lines) (Ok (size_of text)))) (cond t (Err Size) (Err Lines))
     go true e = refl
-    go false e = rw (long-none text h e)
+    go false e = rw (long-none text h e) refl
 
-long-positive : (header : Option (List ℕ)) (pixels : ℕ) → 0 < long_number header pixels
-long-positive header pixels =
-    by_cond (λ (n : ℕ). 0 < n) (missing header) 1 (cond (bad_size pixels) 2 3) (λ e. omega arith)
-    (λ e. by_cond (λ (n : ℕ). 0 < n) (bad_size pixels) 2 3 (λ f. omega arith) (λ f. omega arith))
+long-positive : (header : Option (List ℕ)) (pixels : ℕ) → 0 < reading_number (long_answer header pixels)
+long-positive header pixels = go (missing header) (bad_size pixels)
+  where
+    go : (a b : Bool) → 0 < reading_number (cond a (Err Header) (cond b (Err Size) (Err Lines)))
+    go true b = omega arith
+    go false true = omega arith
+    go false false = omega arith
 
 -- the header of the first bytes is that of the text
 header-front : (n : ℕ) (text : List ℕ) → 13 ≤ n → header_of (take n text) ≡ header_of text
@@ -50,11 +55,10 @@ unfolding longest_swatch
 longest-header = omega arith
 
 pub long-text : LongReading
-unfolding reading_of
 long-text text h =
     let n : ℕ = suc longest_swatch in
     let long : length (take n text) ≡ n = length-take-le n text h in
-    let header : 13 ≤ n = longest-header in
-    let size : size_of (take n text) ≡ size_of text = size-front n text header in
-    let number : swatch_number (take n text) ≡ swatch_number text = long-number (take n text) (omega arith) ∙ rw (header-front n text header, size) (sym (long-number text h)) in
-    (rw (number, size), rw (long-number text h) (long-positive (header_of text) (size_of text)))
+    let header : 13 ≤ n = longest-header in (
+      long-answer (take n text) (omega arith) ∙ rw (header-front n text header, size-front n text header) (sym (long-answer text h)),
+      rw (← reading-numbered text, long-answer text h) (long-positive (header_of text) (size_of text)),
+    )

@@ -1,21 +1,23 @@
 -- Which number a text gets, ground by ground, and the reading with that number. Assumes nothing.
-use Prim.Native.Nat.{ℕ, suc, ◌*◌, ◌≤◌, ◌<◌}
-use mathlib.Core.Path.{◌≡◌}
-use mathlib.Core.Bool.{true, false, cond, or-true}
-use mathlib.Core.List.{List, [], ◌∷◌}
+use Prim.Native.Nat.{ℕ, ◌*◌, ◌≤◌, ◌<◌}
+use mathlib.Core.Path.{◌≡◌, refl}
+use mathlib.Core.Bool.{Bool, true, false, cond, or-true}
+use mathlib.Core.List.{List}
 use mathlib.Core.Option.{none, some}
 use native.Mathlib.Omega.{arith}
 use borrow.Author.Tests.{lt-ltb, le-ltb, ltb-false, ne_eqb, eqb-false}
-use lib.Dec.{ltb, eqb, eqb-suc-zero}
+use lib.Dec.{ltb, eqb}
+use lib.ListN.{get_or}
 use Rattle.lists.specs.Lists.{missing}
 use Rattle.lists.proofs.Connectives.{both_false}
 use Rattle.swatch.specs.Input.{header_of, size_of, pixel_bytes}
-use Rattle.swatch.specs.Reading.{most_swatch_pixels, bad_size, swatch_number, reading_of}
-use Rattle.swatch.specs.declared.Reading.{Reading}
+use Rattle.swatch.specs.Reading.{most_swatch_pixels, bad_size, swatch_number, reading_number, reading_of, ReadingNumbered}
+use Rattle.std.specs.Prelude.{Ok, Err}
+use Rattle.swatch.specs.declared.Unread.TheVariants.{Header, Size, Lines}
 
-pub size_is : (text : List ℕ) (w h : ℕ) → header_of text ≡ some (w ∷ h ∷ []) → size_of text ≡ w * h
+pub size_is : (text vs : List ℕ) (w h : ℕ) → some vs ≡ header_of text → w ≡ get_or vs 0 0 → h ≡ get_or vs 1 0 → size_of text ≡ w * h
 unfolding size_of
-size_is text w h e = rw e
+size_is text vs w h e p q = rw (← e, p, q) refl
 
 -- ---- the size
 pub size-large : (n : ℕ) → most_swatch_pixels < n → bad_size n ≡ true
@@ -30,19 +32,33 @@ size_fits n e =
     (omega (arith, eqb-false n 0 p.0), ltb-false most_swatch_pixels n p.1)
 
 -- ---- the number
-pub number-headless : (text : List ℕ) → header_of text ≡ none → swatch_number text ≡ 1
-unfolding swatch_number
-number-headless text e = rw e
-
 pub number-sized : (text vs : List ℕ) → header_of text ≡ some vs → swatch_number text ≡ cond (bad_size (size_of text)) 2 (cond (missing (pixel_bytes text)) 3 0)
 unfolding swatch_number
 number-sized text vs e = rw e
 
--- ---- the reading
-pub reading-refused : (text : List ℕ) (n : ℕ) → swatch_number text ≡ suc n → ◌≡◌ {A = Reading} (record { number = suc n; pixels = 0 }) (reading_of text)
+-- ---- the answer
+pub reading-headless : (text : List ℕ) → none ≡ header_of text → Err Header ≡ reading_of text
 unfolding reading_of
-reading-refused text n e = rw (e, eqb-suc-zero n)
+reading-headless text e = rw (← e) refl
 
-pub reading-served : (text : List ℕ) → swatch_number text ≡ 0 → ◌≡◌ {A = Reading} (record { number = 0; pixels = size_of text }) (reading_of text)
+pub reading-sizeless : (text vs : List ℕ) → some vs ≡ header_of text → bad_size (size_of text) ≡ true → Err Size ≡ reading_of text
 unfolding reading_of
-reading-served text e = rw e
+reading-sizeless text vs e b = rw (← e, b) refl
+
+pub reading-lineless : (text vs : List ℕ) → some vs ≡ header_of text → bad_size (size_of text) ≡ false → none ≡ pixel_bytes text → Err Lines ≡ reading_of text
+unfolding reading_of
+reading-lineless text vs e b p = rw (← e, b, ← p) refl
+
+pub reading-whole : (text vs bs : List ℕ) → some vs ≡ header_of text → bad_size (size_of text) ≡ false → some bs ≡ pixel_bytes text → Ok (size_of text) ≡ reading_of text
+unfolding reading_of
+reading-whole text vs bs e b p = rw (← e, b, ← p) refl
+
+pub reading-numbered : ReadingNumbered
+unfolding reading_of swatch_number
+reading-numbered text = go (missing (header_of text)) (bad_size (size_of text)) (missing (pixel_bytes text))
+  where
+    go : (a b c : Bool) → reading_number (cond a (Err Header) (cond b (Err Size) (cond c (Err Lines) (Ok (size_of text))))) ≡ cond a 1 (cond b 2 (cond c 3 0))
+    go true b c = refl
+    go false true c = refl
+    go false false true = refl
+    go false false false = refl

@@ -125,9 +125,3 @@ bytes-none text h k = pixel-bytes-at text h ∙ go (rows_at (size_of text) (drop
     go : (o : Option (List ℕ)) → rows_at (size_of text) (drop 13 text) ≡ o → o ≡ none
     go none e = refl
     go (some bs) e = absurd (k (omega (arith, header-long text h, rows_long (size_of text) (drop 13 text) bs e, length-drop 13 text)))
-
--- the three bytes of a line, stored
-pub take-stored : (xs : List ℕ) (i r g b : ℕ) → 3 * i + 3 ≤ length xs → take (3 * (i + 1)) (set (set (set xs (3 * i) r) (3 * i + 1) g) (3 * i + 2) b) ≡ take (3 * i) xs ++ r ∷ g ∷ b ∷ []
-take-stored xs i r g b h =
-    let e : 3 * (i + 1) ≡ 3 * i + 3 = omega arith in
-    rw (e, add-one, add-two) (take-sets (r ∷ g ∷ b ∷ []) xs (3 * i) h)

@@ -64,12 +64,12 @@ module _ (width height : ℕ) (ps : List Pixel) (s : MakesSwatch width height ps
   unfolding pixel_bytes
   bytes_read =
       let rows = whole_each (λ p. pixel_line (pixel_text p)) pixel_figures ps (each-so Bytes _ ps pixel-read (each_from Bytes ps _ s.bytes)) in
-      let size : length (map pixel_text ps) ≡ size_of text = length-map ps pixel_text ∙ s.size ∙ sym (size_is text width height header_read) in
+      let size : length (map pixel_text ps) ≡ size_of text = length-map ps pixel_text ∙ s.size ∙ sym (size_is text (width ∷ height ∷ []) width height (sym header_read) refl refl) in
       rw (lines_are, eq-eqb (length (map pixel_text ps)) (size_of text) size, map-map pixel_line pixel_text ps, rows)
 
   accepted : swatch_number text ≡ 0
   accepted =
-      let size = size_is text width height header_read in
+      let size = size_is text (width ∷ height ∷ []) width height (sym header_read) refl refl in
       number-sized text (width ∷ height ∷ []) header_read
       ∙ rw (size, size-good (width * height) (λ e. omega (arith, s.not_empty)) s.not_too_many, bytes_read)
 

@@ -23,9 +23,10 @@ pub const LONGEST_SWATCH: usize = LINE + LINE * MOST_SWATCH_PIXELS;
 // The most bytes that a printed card may have: a line of 3 fields, and a line of 8 for each entry.
 pub const PRINTED_MOST: usize = 19 + 49 * MOST_ENTRIES;
 
-// What reading a swatch gives: number 0 and how many pixels it has, or the ground on which it is turned down and 0 pixels.
-#[derive(Clone, Copy)]
-pub struct Reading {
-    pub number: u32,
-    pub pixels: u32,
+// Why a text is no swatch: the first of grounds 1, 2 and 3 that holds.
+#[derive(Clone, Copy, PartialEq, Eq)]
+pub enum Unread {
+    Header = 1,
+    Size = 2,
+    Lines = 3,
 }

@@ -1,12 +1,12 @@
-// The text of a card: lines of fields, each field a number in 6 columns. Every function here that is given a place writes from there on,
-// and leaves what comes before and after as it was.
-ghost use Rattle.std.specs.Prelude.{◌≡◌, cond, ◌∷◌, [], ◌++◌, ◌+◌, ◌*◌, ◌/◌, ◌%◌, ◌≤◌, ◌<◌, ltb, length, take};
+// The text of a card: lines of fields, each field a number in 6 columns. Every function here that is lent bytes writes into the first of
+// them, and leaves those that come after as they were.
+ghost use Rattle.std.specs.Prelude.{◌≡◌, cond, ◌∷◌, [], ◌+◌, ◌*◌, ◌/◌, ◌%◌, ◌≤◌, ◌<◌, ltb, length};
 ghost use Rattle.lists.specs.Lists.{over};
 ghost use Rattle.palette.specs.Cards.{most_entries};
 ghost use Rattle.swatch.specs.Input.{space, digit_zero};
-ghost use Rattle.swatch.specs.Output.{printed_field, printed_line, printed_entry, printed_card, printed_most};
+ghost use Rattle.swatch.specs.Output.{printed_field, printed_line, printed_card, printed_most, entry_figures};
 
-use palette::{Entry, MOST_ENTRIES};
+use palette::Entry;
 
 // The digit of the value at `unit`, a power of ten.
 fn digit(value: u32, unit: u32) -> u8
@@ -27,83 +27,69 @@ fn column(value: u32, unit: u32) -> u8
     digit(value, unit)
 }
 
-// Writes a number in 6 columns. The last column always has a digit, even a 0 with no digit before it.
-fn put_field(value: u32, at: usize, out: &mut [u8])
-    requires { at + 6 ≤ length out.old }
-    ensures { out.new ≡ over (take at out.old ++ printed_field value) out.old }
+// A number in 6 columns. The last column always has a digit, even a 0 with no digit before it.
+fn field(value: u32) -> [u8; 6]
+    ensures { result ≡ printed_field value }
 {
-    out[at] = column(value, 100000);
-    out[at + 1] = column(value, 10000);
-    out[at + 2] = column(value, 1000);
-    out[at + 3] = column(value, 100);
-    out[at + 4] = column(value, 10);
-    out[at + 5] = digit(value, 1);
+    [
+        column(value, 100000),
+        column(value, 10000),
+        column(value, 1000),
+        column(value, 100),
+        column(value, 10),
+        digit(value, 1),
+    ]
 }
 
-// Writes a line of fields. Returns the place after it.
-fn put_line(values: &[u32], at: usize, out: &mut [u8]) -> usize
-    requires { at + 6 * length values.now < length out.old }
-    ensures { (out.new ≡ over (take at out.old ++ printed_line values.now) out.old)
-        × (result ≡ at + length (printed_line values.now)) }
+// Writes a line of fields. Returns how many bytes it has.
+fn put_line(values: &[u32], out: &mut [u8]) -> usize
+    requires { 6 * length values.now < length out.old }
+    ensures text { out.new ≡ over (printed_line values.now) out.old }
+    ensures len { result ≡ length (printed_line values.now) }
 {
-    let mut place = at;
-    let mut i = 0;
-    while i < values.len() {
-        put_field(values[i], place, out);
-        place += 6;
-        i += 1;
+    let mut len = 0;
+    for value in values {
+        out[len..len + 6].copy_from_slice(&field(*value));
+        len += 6;
     }
-    out[place] = b'\n';
-    place + 1
+    out[len] = b'\n';
+    len + 1
 }
 
-// Writes the line of an entry. Returns the place after it.
-fn put_entry(entry: Entry, at: usize, out: &mut [u8]) -> usize
-    requires { at + 49 ≤ length out.old }
-    ensures { (out.new ≡ over (take at out.old ++ printed_entry entry) out.old)
-        × (result ≡ at + length (printed_entry entry)) }
+// The figures of an entry, in the order of its line.
+fn figures(entry: &Entry) -> [u32; 8]
+    ensures { result ≡ entry_figures entry.now }
 {
-    let values = [
-        entry.kind as u32,
-        entry.hue as u32,
-        entry.saturation as u32,
-        entry.intensity as u32,
-        entry.red as u32,
-        entry.green as u32,
-        entry.blue as u32,
+    [
+        u32::from(entry.kind),
+        u32::from(entry.hue),
+        u32::from(entry.saturation),
+        u32::from(entry.intensity),
+        u32::from(entry.red),
+        u32::from(entry.green),
+        u32::from(entry.blue),
         entry.count,
-    ];
-    put_line(&values, at, out)
+    ]
 }
 
-// Writes the text of a card into the first places of `out`. Returns how many bytes it has.
-pub fn print_card(
-    entries: [Entry; MOST_ENTRIES],
-    len: usize,
-    pixels: u32,
-    closeness: u32,
-    out: &mut [u8],
-) -> usize
-    requires { (len ≤ most_entries) × (printed_most ≤ length out.old) }
-    ensures { (out.new ≡ over (printed_card pixels closeness (take len entries)) out.old)
-        × (result ≡ length (printed_card pixels closeness (take len entries))) }
+// Writes the text of a card. Returns how many bytes it has.
+pub fn print_card(pixels: u32, closeness: u32, entries: &[Entry], out: &mut [u8]) -> usize
+    requires { (length entries.now ≤ most_entries) × (printed_most ≤ length out.old) }
+    ensures text { out.new ≡ over (printed_card pixels closeness entries.now) out.old }
+    ensures len { result ≡ length (printed_card pixels closeness entries.now) }
 {
-    let header = [len as u32, pixels, closeness];
-    let mut at = put_line(&header, 0, out);
-    let mut i = 0;
-    while i < len {
-        at = put_entry(entries[i], at, out);
-        i += 1;
+    let mut len = put_line(&[entries.len() as u32, pixels, closeness], out);
+    for entry in entries {
+        len += put_line(&figures(entry), &mut out[len..]);
     }
-    at
+    len
 }
 
-// Writes the line of a turned-down swatch, one field, into the first places of `out`. Returns how many bytes it has.
+// Writes the line of a turned-down swatch, one field. Returns how many bytes it has.
 pub fn print_number(number: u32, out: &mut [u8]) -> usize
     requires { 7 ≤ length out.old }
-    ensures { (out.new ≡ over (printed_line (number ∷ [])) out.old)
-        × (result ≡ length (printed_line (number ∷ []))) }
+    ensures text { out.new ≡ over (printed_line (number ∷ [])) out.old }
+    ensures len { result ≡ length (printed_line (number ∷ [])) }
 {
-    let line = [number];
-    put_line(&line, 0, out)
+    put_line(&[number], out)
 }

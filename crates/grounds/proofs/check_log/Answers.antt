@@ -1,0 +1,9 @@
+-- The grounds of modes, for as many places as the log has. Assumes nothing.
+use Rattle.std.proofs.Common.{sym, ◌∙◌}
+use mir.Syntax.{w32}
+use mir.ValLaws.{to_z-of_z}
+use Rattle.grounds.proofs.Served.{log-is-modes}
+use Rattle.grounds.proofs.check_log.Goals as goal
+
+pub returns : goal.returns
+returns c = (rw (to_z-of_z w32 c.args.closeness c.ranges.closeness) at c.check_modes.ensures) ∙ sym (log-is-modes c.args.closeness c.args.h.now c.args.numbers)

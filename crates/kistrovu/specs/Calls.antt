@@ -1,0 +1,26 @@
+-- The answers of the calls, out of what was made or the ground that holds. Assumes nothing.
+use Rattle.std.specs.Prelude.{ℕ, List, Result}
+use Rattle.std.specs.Result.{result_unwrap_or}
+use Rattle.verdict.specs.declared.Verdict.{Verdict}
+use Rattle.palette.specs.declared.Entry.{Entry}
+use Rattle.grounds.specs.declared.Ground.{Ground}
+use Rattle.grounds.specs.Checks.{number_of}
+use Rattle.kistrovu.specs.declared.VerdictAnswer.{VerdictAnswer}
+use Rattle.kistrovu.specs.declared.ModesAnswer.{ModesAnswer}
+use Rattle.kistrovu.specs.declared.LogAnswer.{LogAnswer}
+use Rattle.kistrovu.specs.declared.Card.{Card}
+use Rattle.kistrovu.specs.Answers.{no_verdict}
+
+-- A3: if a ground holds, its number, and zeros for the rest
+abbrev pub verdict_given : Result Verdict Ground → VerdictAnswer
+verdict_given r = record { number = number_of r; verdict = result_unwrap_or r no_verdict }
+
+abbrev pub modes_given : Result ℕ Ground → ModesAnswer
+modes_given r = record { number = number_of r; separators = result_unwrap_or r 0 }
+
+abbrev pub log_given : Result ℕ Ground → LogAnswer
+log_given r = record { number = number_of r; joins = result_unwrap_or r 0 }
+
+-- the entries stand in a list of their own
+abbrev pub card_given : Result ℕ Ground → List Entry → Card
+card_given r es = record { number = number_of r; len = result_unwrap_or r 0; entries = es }
