@@ -13,147 +13,110 @@ use kistrovu::{
     ModesAnswer, kistrovu_fit, kistrovu_line_modes, kistrovu_measures, kistrovu_ring_modes,
     kistrovu_verdict,
 };
-use std::io;
+use std::{fmt, io};
 
 // The bins of the line in `ripple`.
 const RIPPLE: usize = 52;
 
-fn text(rt: &impl Print, words: &str) -> io::Result<()> {
-    print!(rt; "{words}")
-}
+// Numbers, each with a space in front.
+#[derive(Drop)]
+struct Spaced<'a>(&'a [u32]);
 
-fn number(rt: &impl Print, n: u64) -> io::Result<()> {
-    print!(rt; " {n}")
-}
-
-fn signed(rt: &impl Print, x: i64) -> io::Result<()> {
-    print!(rt; " {x}")
-}
-
-fn flag(rt: &impl Print, on: bool) -> io::Result<()> {
-    number(rt, on as u64)
-}
-
-fn counts(rt: &impl Print, h: &[u32]) -> io::Result<()> {
-    for count in h {
-        number(rt, *count as u64)?;
+impl fmt::Display for Spaced<'_> {
+    fn fmt<W: fmt::Write>(&self, f: &mut fmt::Formatter<W>) -> fmt::Result {
+        for n in self.0 {
+            write!(f, " {n}")?;
+        }
+        Ok(())
     }
-    Ok(())
 }
 
 fn measures(rt: &impl Print, red: u8, green: u8, blue: u8) -> io::Result<()> {
-    let m = kistrovu_measures(red, green, blue);
-    text(rt, "pixel")?;
-    number(rt, red as u64)?;
-    number(rt, green as u64)?;
-    number(rt, blue as u64)?;
-    text(rt, ": number")?;
-    number(rt, m.number as u64)?;
-    text(rt, ", intensity")?;
-    number(rt, m.measures.intensity as u64)?;
-    text(rt, ", saturation")?;
-    number(rt, m.measures.saturation as u64)?;
-    text(rt, ", hue")?;
-    number(rt, m.measures.hue as u64)?;
-    text(rt, ", grey")?;
-    flag(rt, m.measures.grey)?;
-    text(rt, "\n")
-}
-
-// The first few of an answer's 256 places.
-fn places(rt: &impl Print, figures: [u32; 256], first: usize) -> io::Result<()> {
-    for figure in figures.iter().take(first) {
-        number(rt, *figure as u64)?;
-    }
-    Ok(())
+    let answer = kistrovu_measures(red, green, blue);
+    let m = answer.measures;
+    println!(rt;
+        "pixel {red} {green} {blue}: number {}, intensity {}, saturation {}, hue {}, grey {}",
+        answer.number,
+        m.intensity,
+        m.saturation,
+        m.hue,
+        u8::from(m.grey)
+    )
 }
 
 // A fit, with one place past its last bin.
 fn fit(rt: &impl Print, h: &[u32], rising: bool) -> io::Result<()> {
     let f = kistrovu_fit(h, rising);
-    text(rt, "fit of")?;
-    counts(rt, h)?;
-    text(rt, ", increasing")?;
-    flag(rt, rising)?;
-    text(rt, ": number")?;
-    number(rt, f.number as u64)?;
-    text(rt, ", block sums")?;
-    places(rt, f.sums, 4)?;
-    text(rt, ", lengths")?;
-    places(rt, f.lengths, 4)?;
-    text(rt, "\n")
+    println!(rt;
+        "fit of{}, increasing {}: number {}, block sums{}, lengths{}",
+        Spaced(h),
+        u8::from(rising),
+        f.number,
+        Spaced(&f.sums[..4]),
+        Spaced(&f.lengths[..4])
+    )
 }
 
-fn at(rt: &impl Print, closeness: i32) -> io::Result<()> {
-    text(rt, ", closeness")?;
-    signed(rt, closeness as i64)
-}
-
-fn verdict(rt: &impl Print, h: &[u32], rising: bool, closeness: i32) -> io::Result<()> {
+// A verdict of a histogram, which is named by `what`.
+fn verdict(
+    rt: &impl Print,
+    what: &impl fmt::Display,
+    h: &[u32],
+    rising: bool,
+    closeness: i32,
+) -> io::Result<()> {
     let v = kistrovu_verdict(h, rising, closeness);
-    text(rt, " bins, increasing")?;
-    flag(rt, rising)?;
-    at(rt, closeness)?;
-    text(rt, ": number")?;
-    number(rt, v.number as u64)?;
-    text(rt, ", cost")?;
-    signed(rt, v.verdict.cost)?;
-    text(rt, ", rejected")?;
-    flag(rt, v.verdict.rejected)?;
-    text(rt, "\n")
-}
-
-fn named(rt: &impl Print, h: &[u32], rising: bool, closeness: i32) -> io::Result<()> {
-    text(rt, "verdict of")?;
-    counts(rt, h)?;
-    text(rt, ":")?;
-    number(rt, h.len() as u64)?;
-    verdict(rt, h, rising, closeness)
-}
-
-fn unnamed(rt: &impl Print, what: &str, h: &[u32], rising: bool, closeness: i32) -> io::Result<()> {
-    text(rt, "verdict of ")?;
-    text(rt, what)?;
-    text(rt, ":")?;
-    number(rt, h.len() as u64)?;
-    verdict(rt, h, rising, closeness)
+    println!(rt;
+        "verdict of{what}: {} bins, increasing {}, closeness {closeness}: number {}, cost {}, rejected {}",
+        h.len(),
+        u8::from(rising),
+        v.number,
+        v.verdict.cost,
+        u8::from(v.verdict.rejected)
+    )
 }
 
 // The answer of a modes call, and the first places of the list that was lent.
-fn modes(rt: &impl Print, m: ModesAnswer, closeness: i32, list: &[u32]) -> io::Result<()> {
-    at(rt, closeness)?;
-    text(rt, ": number")?;
-    number(rt, m.number as u64)?;
-    text(rt, ", separators")?;
-    number(rt, m.separators as u64)?;
-    text(rt, ", list")?;
-    counts(rt, list)?;
-    text(rt, "\n")
+fn modes(
+    rt: &impl Print,
+    what: &impl fmt::Display,
+    m: ModesAnswer,
+    closeness: i32,
+    list: &[u32],
+) -> io::Result<()> {
+    println!(rt;
+        "{what}, closeness {closeness}: number {}, separators {}, list{}",
+        m.number,
+        m.separators,
+        Spaced(list)
+    )
 }
 
-// The list is lent with 99 in each of its 8 places; the places past the last separator keep it.
+// A verdict of a histogram that is named by its bins.
+fn verdict_of(rt: &impl Print, h: &[u32], rising: bool, closeness: i32) -> io::Result<()> {
+    verdict(rt, &Spaced(h), h, rising, closeness)
+}
+
+// The list is lent with 99 in each of its places; the places past the last separator keep it.
 fn line(rt: &impl Print, h: &[u32], closeness: i32) -> io::Result<()> {
     let mut list = [99u32; 8];
     let m = kistrovu_line_modes(h, closeness, &mut list);
-    text(rt, "line")?;
-    counts(rt, h)?;
-    modes(rt, m, closeness, &list)
+    print!(rt; "line")?;
+    modes(rt, &Spaced(h), m, closeness, &list)
 }
 
 fn ring(rt: &impl Print, h: &[u32], closeness: i32) -> io::Result<()> {
     let mut list = [99u32; 9];
     let m = kistrovu_ring_modes(h, closeness, &mut list);
-    text(rt, "ring")?;
-    counts(rt, h)?;
-    modes(rt, m, closeness, &list)
+    print!(rt; "ring")?;
+    modes(rt, &Spaced(h), m, closeness, &list)
 }
 
 // All bins zero: one mode.
 fn zeros(rt: &impl Print) -> io::Result<()> {
     let mut list = [0u32; 256];
     let m = kistrovu_line_modes(&[0u32; 256], 20, &mut list);
-    text(rt, "line of 256 zeros")?;
-    modes(rt, m, 20, &list[..3])
+    modes(rt, &"line of 256 zeros", m, 20, &list[..3])
 }
 
 // 26 humps, all alike and hardly higher than the bins between them. At the least closeness a bar is above 0 from 45 bins on, so runs over
@@ -165,8 +128,7 @@ fn ripple(rt: &impl Print, closeness: i32) -> io::Result<()> {
     }
     let mut list = [0u32; RIPPLE];
     let m = kistrovu_line_modes(&bins, closeness, &mut list);
-    text(rt, "line of 26 humps in 52 bins")?;
-    modes(rt, m, closeness, &list[..3])
+    modes(rt, &"line of 26 humps in 52 bins", m, closeness, &list[..3])
 }
 
 fn starred(rt: &impl Print) -> io::Result<()> {
@@ -211,21 +173,21 @@ fn sample_tables()
 fn main(rt: HostRuntime) -> io::Result<()> {
     sample_tables();
     starred(&rt)?;
-    named(&rt, &[0, 20, 0, 20, 0], true, 0)?;
-    named(&rt, &[0, 20, 0, 20, 0], false, 20)?;
-    named(&rt, &[0, 20, 0, 20, 0], true, 21)?;
-    named(&rt, &[1, 0, 0], true, -1)?;
-    named(&rt, &[0, 1], true, -10)?;
-    named(&rt, &[1, 0], true, -10)?;
-    named(&rt, &[0, 1], true, -11)?;
-    unnamed(&rt, "zeros", &[0u32; 256], true, 0)?;
-    unnamed(&rt, "zeros", &[0u32; 257], true, 0)?;
-    unnamed(&rt, "one bin", &[5], true, 0)?;
-    unnamed(&rt, "a sum of 65,536", &[256u32; 256], true, 20)?;
-    unnamed(&rt, "a sum of 65,537", &[65536, 1], true, 0)?;
-    unnamed(
+    verdict_of(&rt, &[0, 20, 0, 20, 0], true, 0)?;
+    verdict_of(&rt, &[0, 20, 0, 20, 0], false, 20)?;
+    verdict_of(&rt, &[0, 20, 0, 20, 0], true, 21)?;
+    verdict_of(&rt, &[1, 0, 0], true, -1)?;
+    verdict_of(&rt, &[0, 1], true, -10)?;
+    verdict_of(&rt, &[1, 0], true, -10)?;
+    verdict_of(&rt, &[0, 1], true, -11)?;
+    verdict(&rt, &" zeros", &[0u32; 256], true, 0)?;
+    verdict(&rt, &" zeros", &[0u32; 257], true, 0)?;
+    verdict(&rt, &" one bin", &[5], true, 0)?;
+    verdict(&rt, &" a sum of 65,536", &[256u32; 256], true, 20)?;
+    verdict(&rt, &" a sum of 65,537", &[65536, 1], true, 0)?;
+    verdict(
         &rt,
-        "counts of 4,294,967,295",
+        &" counts of 4,294,967,295",
         &[4294967295u32; 256],
         false,
         0,
