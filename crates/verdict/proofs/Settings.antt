@@ -1,10 +1,11 @@
 -- A closeness of either sign as two natural numbers, and the bar as one difference. Assumes nothing.
 --   up, down      how far a closeness is above 0, and below
---   Counted       the setting of a closeness that a call takes
+--   setting       how far a closeness that a call takes lies above the least one: from 0 to 30
+--   Counted       the setting of such a closeness
 use Prim.Native.Nat.{ℕ, suc, ◌+◌, ◌*◌, ◌-◌, ◌/◌, ◌^◌, ◌≤◌, ◌<◌}
 use mathlib.Core.Path.{◌≡◌, refl, sym, ap, ◌∙◌}
 use lib.Dec.{leb→le}
-use lib.IntN.{ℤ, pos, negsuc, sub_ℕ, ◌-ℤ◌}
+use lib.IntN.{ℤ, pos, negsuc, sub_ℕ, ◌-ℤ◌, nat_abs}
 use native.Mathlib.Omega.{arith}
 use native.Mathlib.Nat.{pow-zero, zero-mul, add-zero}
 use Rattle.lists.proofs.Differences.{by_sign, diff-above, same-difference}
@@ -12,7 +13,7 @@ use Rattle.lists.proofs.Powers.{pow-pow}
 use Rattle.lists.proofs.Signed.{difference-is}
 use Rattle.logarithm.specs.Log.{lg, units_per_bit}
 use Rattle.verdict.specs.Test.{Closeness, least_closeness, most_closeness, bar}
-use Rattle.verdict.specs.Settings.{settings_below, last_setting, closeness_of, Offered}
+use Rattle.verdict.specs.Settings.{Offered}
 use Rattle.verdict.specs.Exactness.{power_above, power_below}
 
 -- ---- the closeness
@@ -45,6 +46,16 @@ pub below_power : (e : Closeness) → power_below e ^ units_per_bit ≡ 2 ^ (dow
 unfolding power_below down
 below_power (pos n) = one_power
 below_power (negsuc n) = pow-pow 2 (suc n) units_per_bit
+
+-- ---- the settings: how many lie below closeness 0, that of the largest closeness, and the closeness of each
+unfoldable pub settings_below : ℕ
+settings_below = nat_abs least_closeness
+
+unfoldable pub last_setting : ℕ
+last_setting = nat_abs (most_closeness -ℤ least_closeness)
+
+unfoldable pub closeness_of : ℕ → Closeness
+closeness_of setting = sub_ℕ setting settings_below
 
 -- ---- the bar at a setting
 pub bar-setting : (s l : ℕ) → bar (closeness_of s) l ≡ sub_ℕ (lg (l * suc l / 2) + s * units_per_bit) (settings_below * units_per_bit)
@@ -91,3 +102,10 @@ counted-from-least (negsuc n) o =
       within = omega arith;
       back = by_sign (λ (z : ℤ). z ≡ negsuc n) (settings_below - suc n) settings_below (λ h. absurd (omega arith)) (λ h. ap negsuc (omega arith));
     }
+
+-- a number that lies so far above the least closeness is its setting
+pub setting-is : (e : Closeness) (s : ℕ) → Offered e → pos s ≡ e -ℤ least_closeness → (s ≤ last_setting) × (closeness_of s ≡ e)
+setting-is e s o q =
+    let f = counted-from-least e o in
+    let k : s ≡ f.setting = ap nat_abs (q ∙ f.counted) in
+    (omega (arith, f.within), ap closeness_of k ∙ f.back)

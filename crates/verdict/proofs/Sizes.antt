@@ -11,10 +11,10 @@ use Rattle.logarithm.proofs.Laws.{lg-below}
 use Rattle.pooling.specs.Limits.{most_bins, most_counts}
 use Rattle.verdict.specs.declared.Mass.{Mass}
 use Rattle.verdict.specs.Test.{Closeness, least_closeness, most_closeness, weight, bar}
-use Rattle.verdict.specs.Settings.{settings_below, last_setting, Offered}
+use Rattle.verdict.specs.Settings.{Offered}
 use Rattle.verdict.specs.Exactness.{LogsDefined}
 use Rattle.verdict.proofs.Terms.{observed_log, expected_log, Ranged, loggable, counted, massed, remaining, parts-range}
-use Rattle.verdict.proofs.Settings.{bar-setting, counted-from-least}
+use Rattle.verdict.proofs.Settings.{settings_below, last_setting, bar-setting, counted-from-least}
 
 -- room for finer units too
 pub units_small : units_per_bit ≤ 2 ^ 40

@@ -1,6 +1,7 @@
 // The closeness of a call: from -10 to 20. One more closeness asks for one more bit of evidence before a stretch is rejected (rule T4).
-ghost use Rattle.std.specs.Prelude.{◌≡◌, ◌≤◌, ℤ};
-ghost use Rattle.verdict.specs.Settings.{last_setting, closeness_of, Offered};
+ghost use Rattle.std.specs.Prelude.{◌≡◌, ℤ, pos, ◌-ℤ◌};
+ghost use Rattle.verdict.specs.Test.{least_closeness};
+ghost use Rattle.verdict.specs.Settings.{Offered};
 
 use std::marker::Model;
 
@@ -34,7 +35,7 @@ impl Closeness {
 
     // How far it lies above the least one.
     pub(crate) fn above_least(self) -> u64
-        ensures { (result ≤ last_setting) × (closeness_of result ≡ self) }
+        ensures { pos result ≡ self -ℤ least_closeness }
     {
         (self.value - LEAST_CLOSENESS) as u64
     }

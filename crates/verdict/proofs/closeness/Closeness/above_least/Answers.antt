@@ -1,11 +1,11 @@
 -- What is left when the machine takes off the least closeness is not negative.
-use Rattle.std.proofs.Common.{◌≡◌, ◌≤◌, ap, ◌∙◌, ℤ, pos, ◌-ℤ◌, arith, to_z, of_z, w32, FitsSigned}
+use Rattle.std.proofs.Common.{◌≡◌, ◌≤◌, ap, sym, ◌∙◌, ℤ, pos, ◌-ℤ◌, arith, to_z, of_z, w32, FitsSigned}
 use lib.Dec.{leb→le}
 use lib.IntN.{negsuc}
 use mir.ValLaws.{to_z-of_z}
 use Rattle.verdict.specs.Test.{Closeness, least_closeness, most_closeness}
-use Rattle.verdict.specs.Settings.{last_setting, Offered}
-use Rattle.verdict.proofs.Settings.{Counted, counted-from-least}
+use Rattle.verdict.specs.Settings.{Offered}
+use Rattle.verdict.proofs.Settings.{last_setting, Counted, counted-from-least}
 use Rattle.verdict.proofs.closeness.Closeness.above_least.Goals as goal
 
 small : (e : Closeness) (f : Counted e) → FitsSigned w32 (pos f.setting)
@@ -42,4 +42,4 @@ unfolding least_closeness
 returns c =
     let e = c.self.inside.value in
     let f = counted-from-least e c.self.invariant in
-    rw (cast_is e c.self.invariant f) (f.within, f.back ∙ c.self.view_is)
+    rw (cast_is e c.self.invariant f) (sym f.counted ∙ ap (λ (z : ℤ). z -ℤ least_closeness) c.self.view_is)
