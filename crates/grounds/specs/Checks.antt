@@ -1,4 +1,4 @@
--- The grounds as the code hands them back, and their numbers. Assumes nothing.
+-- The grounds as the code hands them back, and their numbers. No public promise cites it. Assumes nothing.
 use Rattle.std.specs.Prelude.{ℕ, Result, Ok, Err}
 use Rattle.swatch.specs.declared.Unread.{Unread}
 use Rattle.swatch.specs.declared.Unread.TheVariants.{Header as UnreadHeader, Size as UnreadSize, Lines as UnreadLines}

@@ -1,4 +1,4 @@
--- The answers of the calls, out of what was made or the ground that holds. Assumes nothing.
+-- The answers of the calls, out of what was made or the ground that holds. No public promise cites it. Assumes nothing.
 use Rattle.std.specs.Prelude.{ℕ, List, Result}
 use Rattle.std.specs.Result.{result_unwrap_or}
 use Rattle.verdict.specs.declared.Verdict.{Verdict}
