@@ -8,7 +8,7 @@ mod entries;
 
 pub use cards::{Scratch, make_card, make_entries};
 
-// How many entries a card has as defined, and the entries where a card may hold so many; the places past them are zero.
+// How many entries a card has as defined, and the entries where a card may hold so many; the places past them are zero. The number is promised of a card with too many entries too (`card_entries`), so that no Option of the entries can stand for both.
 #[derive(Clone, Copy)]
 pub struct CardEntries {
     pub total: u32,
