@@ -5,13 +5,15 @@ use native.Mathlib.Omega.{arith}
 use lib.ListN.{length, take, drop, length-append}
 use Rattle.lists.specs.Lists.{numbers, filter}
 use Rattle.verdict.specs.Test.{Closeness}
+use Rattle.segmentation.specs.declared.Line.{Line}
+use Rattle.segmentation.specs.declared.Segments.{Segments}
 use Rattle.segmentation.specs.Segments.{is_valley, first_separators, segments_from, first_segments}
 use Rattle.segmentation.specs.Joining.{line_reader, joined, join, line_joins, line_modes}
 use Rattle.segmentation.proofs.Settled.{join-all-keeps, line-shortens}
 use Rattle.segmentation.proofs.FirstCut.{first-cut}
 use Rattle.segmentation.proofs.Applied.{cut-count}
-use Rattle.segmentation.specs.Held.{segments_held}
-use Rattle.segmentation.specs.Runs.{OnLine}
+use Rattle.segmentation.specs.Held.{held}
+use Rattle.segmentation.specs.Runs.{reader_of, joins_of, OnLine}
 use Rattle.segmentation.proofs.Holding.{held-length}
 use Rattle.segmentation.proofs.Stepping.{on-line-count}
 use Rattle.joinlog.specs.JoinLog.{joins_made, made_on_line}
@@ -45,8 +47,7 @@ module _ (e : Closeness) (h : List ℕ) where
   line-made-below two = omega (arith, line-made-few, cut-count (first-cut h two))
 
 -- of segments that are held and cut a line fewer joins are made than it has bins
-pub held-made-few : (e : Closeness) (h s p : List ℕ) (n : ℕ) → OnLine h s p n
-    → length (joins_made n (line_joins e (line_reader h)) (segments_held s p 0 n)) < length h
-held-made-few e h s p n on =
-    let drop = made-drop (line_joins e (line_reader h)) (line-shortens e (line_reader h)) n (segments_held s p 0 n) in
-    omega (arith, drop, held-length s p 0 n, on-line-count h s p n on)
+pub held-made-few : {N : ℕ} (line : Line) (s : Segments N) → OnLine line s → length (joins_made s.count (joins_of line) (held s)) < length line.bins.now
+held-made-few line s on =
+    let drop = made-drop (joins_of line) (line-shortens line.closeness (reader_of line)) s.count (held s) in
+    omega (arith, drop, held-length s.separators s.peaks 0 s.count, on-line-count line s on)

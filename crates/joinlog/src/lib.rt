@@ -10,7 +10,7 @@ ghost use Rattle.joinlog.specs.JoinLog.{record_numbers, made_on_line, line_log, 
 use following::follow;
 use logarithm::Sheet;
 use pooling::MOST_BINS;
-use segmentation::Segments;
+use segmentation::{Line, Segments};
 use verdict::Closeness;
 use writing::write_joins;
 
@@ -42,7 +42,12 @@ pub fn line_log(h: &[u32], closeness: Closeness, log: &mut [i64]) -> u32
     let mut segments = Segments::<MOST_BINS>::new();
     segments.first_segments(h);
     let sheet = Sheet::copied();
-    let joins = write_joins(&mut segments, &sheet, h, closeness, log);
+    let line = Line {
+        sheet: &sheet,
+        bins: h,
+        closeness,
+    };
+    let joins = write_joins(&mut segments, &line, log);
     joins as u32
 }
 
@@ -57,7 +62,12 @@ pub fn replay(h: &[u32], closeness: Closeness, log: &[i64], list: &mut [u32]) ->
     let mut segments = Segments::<MOST_BINS>::new();
     segments.first_segments(h);
     let sheet = Sheet::copied();
-    if !follow(&mut segments, &sheet, h, closeness, log) {
+    let line = Line {
+        sheet: &sheet,
+        bins: h,
+        closeness,
+    };
+    if !follow(&mut segments, &line, log) {
         return None;
     }
     let count = segments.count + 1;

@@ -8,7 +8,7 @@ ghost use Rattle.segmentation.specs.Ring.{opening, two_turns, ring_modes};
 use crate::HELD_TWICE;
 use crate::rounds::join_round;
 use logarithm::Sheet;
-use segmentation::Segments;
+use segmentation::{Line, Segments};
 use verdict::Closeness;
 
 // The lowest bin; of several, the one with the lowest number.
@@ -51,6 +51,15 @@ pub fn ring(h: &[u32], round: &[u32], closeness: Closeness, modes: &mut Segments
         return;
     }
     let sheet = Sheet::copied();
-    modes.join_all(&sheet, &round[..end], closeness);
-    join_round(modes, &sheet, round, closeness, bins);
+    let turns = Line {
+        sheet: &sheet,
+        bins: round,
+        closeness,
+    };
+    let line = Line {
+        bins: &round[..end],
+        ..turns
+    };
+    modes.join_all(&line);
+    join_round(modes, &turns, bins);
 }

@@ -5,21 +5,29 @@ use Rattle.std.specs.Int.Signed.{lt_z, mag}
 use Rattle.lists.specs.Lists.{total, part}
 use Rattle.verdict.specs.Test.{Closeness}
 use Rattle.pooling.specs.Limits.{Small}
+use Rattle.segmentation.specs.declared.Line.{Line}
 use Rattle.segmentation.specs.declared.Segments.{Segments}
 use Rattle.segmentation.specs.Segments.{Segment, segment_at, bin_at}
-use Rattle.segmentation.specs.Joining.{Reader, Join, join_of, last_start}
-use Rattle.segmentation.specs.Held.{segments_held}
+use Rattle.segmentation.specs.Joining.{Reader, line_reader, Join, join_of, last_start, Joins, line_joins}
+use Rattle.segmentation.specs.Held.{segments_held, held}
 use Rattle.segmentation.specs.Finished.{Cut, RingCut}
 
 -- two lists with room for so many segments
 pub record Prepared (separators peaks : List ℕ) (held : ℕ) : Type 0 where
   pub places : (held < length separators) × (held ≤ length peaks)
 
--- n segments that cut a line, with what a search among them needs
-pub record OnLine (h separators peaks : List ℕ) (n : ℕ) : Type 0 where
-  pub prepared : Prepared separators peaks n
-  pub small : Small h
-  pub cut : Cut (length h) (segments_held separators peaks 0 n)
+-- the stretches of a line that the code holds
+abbrev pub reader_of : Line → Reader
+reader_of line = line_reader line.bins.now
+
+-- and how its segments are joined
+abbrev pub joins_of : Line → Joins
+joins_of line = line_joins line.closeness (reader_of line)
+
+-- segments that cut it, with what a search among them needs: they have room in their lists by their type
+pub record OnLine {N : ℕ} (line : Line) (s : Segments N) : Type 0 where
+  pub small : Small line.bins.now
+  pub cut : Cut (length line.bins.now) (held s)
 
 -- the stretch from bin i to bin j lies within h, and is small enough to be tested
 pub record Within (h : List ℕ) (i j : ℕ) : Type 0 where

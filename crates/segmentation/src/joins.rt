@@ -1,11 +1,11 @@
 // Joining a run of segments in place, and joining until no run is joinable.
 ghost use Rattle.std.specs.Prelude.{◌≡◌, ◌+◌, ◌-◌, ◌≤◌, ◌<◌, length};
 ghost use Rattle.pooling.specs.Limits.{Small};
-ghost use Rattle.segmentation.specs.Joining.{line_reader, join, next_join, line_joins, join_all, line_modes};
+ghost use Rattle.segmentation.specs.Joining.{join, next_join, join_all, line_modes};
 ghost use Rattle.segmentation.specs.Held.{held, join_found};
-ghost use Rattle.segmentation.specs.Runs.{OnLine};
+ghost use Rattle.segmentation.specs.Runs.{reader_of, joins_of, OnLine};
 
-use crate::{Join, Search, Segments};
+use crate::{Join, Line, Search, Segments};
 use logarithm::Sheet;
 use verdict::Closeness;
 
@@ -27,25 +27,24 @@ impl<const N: usize> Segments<N> {
     }
 
     // The join that comes next among the segments of a line, if there is one. With `apply`, which makes it, this is one step of joining.
-    pub fn next_on_line(&self, sheet: &Sheet, h: &[u32], closeness: Closeness) -> Option<Join>
-        requires { OnLine h.now self.now.separators self.now.peaks self.now.count }
-        ensures { join_found result ≡ next_join closeness (line_reader h.now) (held self.now) }
+    pub fn next_on_line(&self, line: &Line) -> Option<Join>
+        requires { OnLine line.now self.now }
+        ensures { join_found result ≡ next_join line.now.closeness (reader_of line.now) (held self.now) }
     {
         let all = Search {
             round: false,
             known: 0,
         };
-        self.next_join(sheet, h, closeness, all)
+        self.next_join(line, all)
     }
 
     // Joins the segments of a line, step by step, until no run is joinable.
-    pub fn join_all(&mut self, sheet: &Sheet, h: &[u32], closeness: Closeness)
-        requires { OnLine h.now self.old.separators self.old.peaks self.old.count }
-        ensures all { held self.new
-            ≡ join_all self.old.count (line_joins closeness (line_reader h.now)) (held self.old) }
+    pub fn join_all(&mut self, line: &Line)
+        requires { OnLine line.now self.old }
+        ensures all { held self.new ≡ join_all self.old.count (joins_of line.now) (held self.old) }
         ensures fewer { self.new.count ≤ self.old.count }
     {
-        while let Some(join) = self.next_on_line(sheet, h, closeness) {
+        while let Some(join) = self.next_on_line(line) {
             self.apply(join);
         }
     }
@@ -62,6 +61,11 @@ impl<const N: usize> Segments<N> {
             return;
         }
         let sheet = Sheet::copied();
-        self.join_all(&sheet, h, closeness);
+        let line = Line {
+            sheet: &sheet,
+            bins: h,
+            closeness,
+        };
+        self.join_all(&line);
     }
 }

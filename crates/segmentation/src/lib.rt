@@ -3,6 +3,9 @@
 
 ghost use Rattle.std.specs.Prelude.{◌≡◌, ◌<◌, length};
 
+use logarithm::Sheet;
+use verdict::Closeness;
+
 mod first;
 mod joins;
 mod lines;
@@ -41,6 +44,14 @@ impl<const N: usize> Segments<N> {
             count: 0,
         }
     }
+}
+
+// A line of bins whose segments are joined at a closeness, and the sheet that costs are found by. A ring is read as one too, by two of its turns.
+#[derive(Clone, Copy)]
+pub struct Line<'a> {
+    pub sheet: &'a Sheet,
+    pub bins: &'a [u32],
+    pub closeness: Closeness,
 }
 
 // How a search goes through segments: round a ring or along a line (the definition of the next join takes the same test). No run of the first `known` of

@@ -63,8 +63,9 @@ pub fn bar(sheet: &Sheet, closeness: Closeness, bins: u64) -> i64
     requires { (1 ≤ bins) × (bins ≤ most_bins) }
     ensures { result ≡ bar closeness bins }
 {
+    let above = closeness.above_least();
     difference(
-        sheet.lg(bins * (bins + 1) / 2) + Logarithm::units(closeness.above_least()),
+        sheet.lg(bins * (bins + 1) / 2) + Logarithm::units(above),
         Logarithm::units(SETTINGS_BELOW),
     )
 }

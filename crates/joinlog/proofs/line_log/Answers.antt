@@ -17,7 +17,7 @@ write_joins-joins-requires c =
     let a = c.args in
     let t = c.first_segments.new.self in
     let in_bounds = c.requires.in_bounds in (
-      first-on-line a.h.now t.separators t.peaks t.count c.requires.small in_bounds.0 (omega (arith, t.room, c.requires.small.bins)) (omega (arith, t.room, c.requires.small.bins)) c.first_segments.ensures,
+      first-on-line _ t c.requires.small in_bounds.0 c.first_segments.ensures,
       in_bounds.1,
     )
 

@@ -5,8 +5,8 @@ use Rattle.std.proofs.lemmas.Bool.{false≢true}
 use Rattle.std.proofs.lemmas.Bool.Decides.{Decides-int_eq}
 use Rattle.std.proofs.lemmas.Slice.Eq.{strip_prefix_is}
 use Rattle.segmentation.specs.declared.Join.{Join}
-use Rattle.segmentation.specs.Joining.{line_reader, line_joins}
-use Rattle.segmentation.specs.Held.{segments_held, join_found}
+use Rattle.segmentation.specs.Held.{held, join_found}
+use Rattle.segmentation.specs.Runs.{reader_of, joins_of}
 use Rattle.segmentation.proofs.Applied.{held-step}
 use Rattle.segmentation.proofs.Settled.{joins-none, line-shortens}
 use Rattle.segmentation.proofs.Stepping.{on-line-count, next-within, fewer, on-line-after}
@@ -20,20 +20,20 @@ record_of-requires c =
     let a = c.args in
     let v = c.loop-join.segments in
     let on = c.loop-join.invariant.on_line in
-    let bins = on-line-count a.h.now v.separators v.peaks v.count on in
-    let within = next-within a.h.now v.separators v.peaks v.count on a.closeness c.in-Some.join (sym c.next_on_line.ensures ∙ ap join_found c.in-Some.is) in
+    let bins = on-line-count a.line.now v on in
+    let within = next-within a.line.now v on c.in-Some.join (sym c.next_on_line.ensures ∙ ap join_found c.in-Some.is) in
     (omega (arith, on.small.bins), omega (arith, on.small.bins))
 
 pub returns-in_default-strip_prefix : goal.returns-in_default-strip_prefix
 returns-in_default-strip_prefix c =
     let a = c.args in
     let v = c.loop-join.segments in
-    let w = line_joins a.closeness (line_reader a.h.now) in
+    let w = joins_of a.line.now in
     let j = c.in-Some.join in
     let rest = c.loop-join.rest.now in
-    let after = w.after (segments_held v.separators v.peaks 0 v.count) j in
+    let after = w.after (held v) j in
     let js = joins_made (length after) w after in
-    let made = held-made w (line-shortens a.closeness (line_reader a.h.now)) v.separators v.peaks v.count j (sym c.next_on_line.ensures ∙ ap join_found c.in-Some.is) in
+    let made = held-made w (line-shortens a.line.now.closeness (reader_of a.line.now)) v.separators v.peaks v.count j (sym c.next_on_line.ensures ∙ ap join_found c.in-Some.is) in
     let numbers : c.into-numbers.result ≡ numbers_of (record_of j) = c.into-numbers.ensures ∙ ap numbers_of c.record_of.ensures in
     let never = strip_prefix_is Decides-int_eq rest c.into-numbers.result None c.in_default-strip_prefix.ensures.cases in (
       sym (log-departs j js rest (λ behind e. never behind (rw numbers e)))
@@ -46,7 +46,7 @@ pub apply-requires : goal.apply-requires
 apply-requires c =
     let a = c.args in
     let v = c.loop-join.segments in
-    (search rules, next-within a.h.now v.separators v.peaks v.count c.loop-join.invariant.on_line a.closeness c.in-Some.join (sym c.next_on_line.ensures ∙ ap join_found c.in-Some.is))
+    (search rules, next-within a.line.now v c.loop-join.invariant.on_line c.in-Some.join (sym c.next_on_line.ensures ∙ ap join_found c.in-Some.is))
 
 pub loop-join-smaller : goal.loop-join-smaller
 loop-join-smaller c =
@@ -54,26 +54,26 @@ loop-join-smaller c =
     let v = c.loop-join.segments in
     let t = c.apply.new.self in
     let next = sym c.next_on_line.ensures ∙ ap join_found c.in-Some.is in
-    fewer a.h.now v.separators v.peaks v.count c.loop-join.invariant.on_line a.closeness c.in-Some.join next t.separators t.peaks t.count c.apply.ensures.joined
+    fewer a.line.now v c.loop-join.invariant.on_line c.in-Some.join next t c.apply.ensures.joined
 
 pub loop-join-preserved : goal.loop-join-preserved
 loop-join-preserved c =
     let a = c.args in
     let v = c.loop-join.segments in
     let t = c.apply.new.self in
-    let w = line_joins a.closeness (line_reader a.h.now) in
-    let shortens = line-shortens a.closeness (line_reader a.h.now) in
+    let w = joins_of a.line.now in
+    let shortens = line-shortens a.line.now.closeness (reader_of a.line.now) in
     let j = c.in-Some.join in
     let rest = c.loop-join.rest.now in
     let behind = c.in-Some-strip_prefix.behind in
-    let after = w.after (segments_held v.separators v.peaks 0 v.count) j in
+    let after = w.after (held v) j in
     let js = joins_made (length after) w after in
     let next = sym c.next_on_line.ensures ∙ ap join_found c.in-Some.is in
     let done = c.apply.ensures.joined in
     let numbers : c.into-numbers.result ≡ numbers_of (record_of j) = c.into-numbers.ensures ∙ ap numbers_of c.record_of.ensures in
     let begins : rest ≡ numbers_of (record_of j) ++ behind.now = strip_prefix_is Decides-int_eq rest c.into-numbers.result (Some behind) c.in-Some-strip_prefix.ensures.cases ∙ ap (λ ns. ns ++ behind.now) numbers in
     record {
-      on_line = on-line-after a.h.now v.separators v.peaks v.count c.loop-join.invariant.on_line a.closeness j next t.separators t.peaks t.count done (t.room.0 ∙ sym v.room.0) (t.room.1 ∙ sym v.room.1);
+      on_line = on-line-after a.line.now v c.loop-join.invariant.on_line j next t done;
       same = ap (λ (is : List Join). same_numbers behind.now (log_of is)) (made_held w t.separators t.peaks t.count after done)
           ∙ log-goes-on j js rest behind.now begins
           ∙ ap (λ (is : List Join). same_numbers rest (log_of is)) (sym (held-made w shortens v.separators v.peaks v.count j next))
@@ -85,8 +85,8 @@ pub returns : goal.returns
 returns c =
     let a = c.args in
     let v = c.loop-join.segments in
-    let w = line_joins a.closeness (line_reader a.h.now) in
-    let left = segments_held v.separators v.peaks 0 v.count in
+    let w = joins_of a.line.now in
+    let left = held v in
     let rest = c.loop-join.rest.now in
     let none = sym c.next_on_line.ensures ∙ ap join_found c.in_default.is in (
       c.is_empty.ensures ∙ sym (log-ends rest) ∙ ap (λ (is : List Join). same_numbers rest (log_of is)) (sym (made_none w v.count left none)) ∙ c.loop-join.invariant.same,

@@ -4,10 +4,10 @@ use Rattle.std.proofs.Math.Option.{some}
 use Rattle.verdict.specs.Test.{Closeness}
 use Rattle.segmentation.specs.declared.Join.{Join}
 use Rattle.segmentation.specs.Segments.{Segment}
-use Rattle.segmentation.specs.Joining.{Reader, line_reader, join_all}
+use Rattle.segmentation.specs.Joining.{Reader, join_all}
 use Rattle.segmentation.specs.Around.{twice, next_round, join_twice, join_round, ring_joins}
 use Rattle.segmentation.specs.Held.{segments_held, join_found}
-use Rattle.segmentation.specs.Runs.{OnRing, NoneAmong}
+use Rattle.segmentation.specs.Runs.{reader_of, OnRing, NoneAmong}
 use Rattle.segmentation.proofs.Holding.{held-length}
 use Rattle.segmentation.proofs.Applied.{held-step}
 use Rattle.segmentation.proofs.Settled.{joins-none, joins-more}
@@ -60,7 +60,7 @@ apply_round-requires c =
     let ring = c.loop-join.invariant.ring in
     let few = ring-count v.separators v.peaks v.count a.bins ring.on_ring.cut in
     let same = c.next_round.ensures.held.0 in
-    let run = valid a.closeness (line_reader a.round.now) a.bins v.separators v.peaks v.count c.in-Some.join (sym c.next_round.ensures.next ∙ ap join_found c.in-Some.is) in
+    let run = valid a.turns.now.closeness (reader_of a.turns.now) a.bins v.separators v.peaks v.count c.in-Some.join (sym c.next_round.ensures.next ∙ ap join_found c.in-Some.is) in
     (run.0, omega arith, omega arith, omega (arith, ring.limits))
 
 pub overflow_sub-known : goal.overflow_sub-known
@@ -69,8 +69,8 @@ overflow_sub-known c =
     let v = c.loop-join.modes in
     let r = c.next_round.new.modes in
     let t = c.apply_round.new.modes in
-    let e = a.closeness in
-    let read = line_reader a.round.now in
+    let e = a.turns.now.closeness in
+    let read = reader_of a.turns.now in
     let next = sym c.next_round.ensures.next ∙ ap join_found c.in-Some.is in
     let done = made-is e read a.bins v.separators v.peaks v.count c.in-Some.join next r.separators r.peaks r.count c.next_round.ensures.held.0 c.next_round.ensures.again (segments_held t.separators t.peaks 0 t.count) c.apply_round.ensures.0 in
     let ring = c.loop-join.invariant.ring in
@@ -82,8 +82,8 @@ loop-join-smaller c =
     let v = c.loop-join.modes in
     let r = c.next_round.new.modes in
     let t = c.apply_round.new.modes in
-    let e = a.closeness in
-    let read = line_reader a.round.now in
+    let e = a.turns.now.closeness in
+    let read = reader_of a.turns.now in
     let next = sym c.next_round.ensures.next ∙ ap join_found c.in-Some.is in
     let done = made-is e read a.bins v.separators v.peaks v.count c.in-Some.join next r.separators r.peaks r.count c.next_round.ensures.held.0 c.next_round.ensures.again (segments_held t.separators t.peaks 0 t.count) c.apply_round.ensures.0 in
     fewer e read a.bins v.separators v.peaks v.count c.in-Some.join next t.separators t.peaks t.count done
@@ -94,8 +94,8 @@ loop-join-preserved c =
     let v = c.loop-join.modes in
     let r = c.next_round.new.modes in
     let t = c.apply_round.new.modes in
-    let e = a.closeness in
-    let read = line_reader a.round.now in
+    let e = a.turns.now.closeness in
+    let read = reader_of a.turns.now in
     let next = sym c.next_round.ensures.next ∙ ap join_found c.in-Some.is in
     let done = made-is e read a.bins v.separators v.peaks v.count c.in-Some.join next r.separators r.peaks r.count c.next_round.ensures.held.0 c.next_round.ensures.again (segments_held t.separators t.peaks 0 t.count) c.apply_round.ensures.0 in
     let i = c.loop-join.invariant in
@@ -125,7 +125,7 @@ returns c =
     let held = c.next_round.ensures.held in
     let none = sym c.next_round.ensures.next ∙ ap join_found c.in_default.is in (
       held.1
-          ∙ sym (joins-none (ring_joins a.closeness (line_reader a.round.now) a.bins) v.count (segments_held v.separators v.peaks 0 v.count) none)
+          ∙ sym (joins-none (ring_joins a.turns.now.closeness (reader_of a.turns.now) a.bins) v.count (segments_held v.separators v.peaks 0 v.count) none)
           ∙ i.same,
       omega (arith, held.0, i.fewer),
     )

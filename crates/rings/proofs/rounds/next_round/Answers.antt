@@ -70,15 +70,15 @@ next_join-requires c =
     let ring = c.requires.ring_held in
     let most = ring.limits.0 in
     let none = c.requires.none_among in
-    let below = few a.round.now v.separators v.peaks v.count a.bins ring in (
+    let below = few a.turns.now.bins.now v.separators v.peaks v.count a.bins ring in (
       search rules,
       (
         record { places = (omega (arith, ring.prepared.places, c.repeat.auto), omega (arith, ring.prepared.places, c.repeat-2.auto)) },
         (
-          inside a.round.now v.separators v.peaks v.count a.bins ring c.repeat.new.a c.repeat-2.new.a c.repeat.ensures c.repeat-2.ensures,
+          inside a.turns.now.bins.now v.separators v.peaks v.count a.bins ring c.repeat.new.a c.repeat-2.new.a c.repeat.ensures c.repeat-2.ensures,
           (
-            none_left a.round.now v.separators v.peaks v.count a.bins ring c.repeat.new.a c.repeat-2.new.a c.repeat.ensures c.repeat-2.ensures a.closeness a.known none.1 none.0,
-            (omega (arith, ring.on_ring.cut.non_empty, count a.round.now v.separators v.peaks v.count a.bins ring), omega arith, none.1),
+            none_left a.turns.now.bins.now v.separators v.peaks v.count a.bins ring c.repeat.new.a c.repeat-2.new.a c.repeat.ensures c.repeat-2.ensures a.turns.now.closeness a.known none.1 none.0,
+            (omega (arith, ring.on_ring.cut.non_empty, count a.turns.now.bins.now v.separators v.peaks v.count a.bins ring), omega arith, none.1),
           ),
         ),
       ),
@@ -88,7 +88,7 @@ pub returns-clause-next : goal.returns-clause-next
 returns-clause-next c =
     let a = c.args in
     let v = a.modes.now in
-    c.next_join.ensures ∙ next-is a.round.now v.separators v.peaks v.count a.bins c.requires.ring_held c.repeat.new.a c.repeat-2.new.a c.repeat.ensures c.repeat-2.ensures a.closeness
+    c.next_join.ensures ∙ next-is a.turns.now.bins.now v.separators v.peaks v.count a.bins c.requires.ring_held c.repeat.new.a c.repeat-2.new.a c.repeat.ensures c.repeat-2.ensures a.turns.now.closeness
 
 pub returns-clause-held : goal.returns-clause-held
 returns-clause-held c =
@@ -99,4 +99,4 @@ pub returns-clause-again : goal.returns-clause-again
 returns-clause-again c =
     let a = c.args in
     let v = a.modes.now in
-    again a.round.now v.separators v.peaks v.count a.bins c.requires.ring_held c.repeat.new.a c.repeat-2.new.a c.repeat.ensures c.repeat-2.ensures
+    again a.turns.now.bins.now v.separators v.peaks v.count a.bins c.requires.ring_held c.repeat.new.a c.repeat-2.new.a c.repeat.ensures c.repeat-2.ensures

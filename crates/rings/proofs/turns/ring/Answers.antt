@@ -69,8 +69,8 @@ returns-then-modes-lt2 c =
     let t = c.first_segments.new.self in
     one-mode h two c.args.closeness t.separators t.peaks t.count (c.first_segments.ensures ∙ ap first_segments (line-is h two c.args.round.now c.requires.in_bounds.3)) (omega arith)
 
-pub slice_bounds-join_all-end : goal.slice_bounds-join_all-end
-slice_bounds-join_all-end c =
+pub slice_bounds-line-end : goal.slice_bounds-line-end
+slice_bounds-line-end c =
     let h = c.args.h.now in
     let two = c.requires.in_bounds.0 in
     rw (line-is h two c.args.round.now c.requires.in_bounds.3) (omega (arith, long h two))
@@ -83,8 +83,8 @@ join_all-requires c =
     let t = c.first_segments.new.self in
     let l = long h two in (
       search rules,
-      rw (line-is h two c.args.round.now c.requires.in_bounds.3) (first-on-line (opened h) t.separators t.peaks t.count (ring-small h two in_bounds.1 in_bounds.2)
-          (line-two h two) (omega (arith, t.room, in_bounds)) (omega (arith, t.room, in_bounds)) (c.first_segments.ensures ∙ ap first_segments (line-is h two c.args.round.now c.requires.in_bounds.3))),
+      rw (line-is h two c.args.round.now c.requires.in_bounds.3) (first-on-line _ t (ring-small h two in_bounds.1 in_bounds.2)
+          (line-two h two) (c.first_segments.ensures ∙ ap first_segments (line-is h two c.args.round.now c.requires.in_bounds.3))),
     )
 
 pub join_round-requires-clause-ring_held : goal.join_round-requires-clause-ring_held

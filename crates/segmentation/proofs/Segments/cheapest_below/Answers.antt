@@ -1,9 +1,9 @@
 -- A run lower than the best so far takes its place; a run of the same cost does not. Assumes nothing.
 use Rattle.std.proofs.Common.{◌≡◌, suc, arith}
 use Rattle.verdict.proofs.Machine.{handed-back}
-use Rattle.segmentation.specs.Joining.{line_reader, last_start}
+use Rattle.segmentation.specs.Joining.{last_start}
 use Rattle.segmentation.specs.Held.{segments_held}
-use Rattle.segmentation.specs.Runs.{held_count}
+use Rattle.segmentation.specs.Runs.{reader_of, held_count}
 use Rattle.segmentation.proofs.Searching.{searched-none, searched-taken, searched-left, searched-to, same-run, run-held, known-held}
 use Rattle.segmentation.proofs.Segments.cheapest_below.Goals as goal
 use Rattle.segmentation.proofs.Segments.cheapest_below.Goals.{then-next-least, else-next-least}
@@ -18,7 +18,7 @@ loop-i-preserved g c =
     let l = c.loop-i in
     let r = c.run-next in
     let fit = run-held a.among.round s.count a.len l.i c.requires.le_len.0 c.requires.le_len.1 (omega (arith, c.start_count-end.ensures)) in
-    let found = rw (same-run a.closeness a.h.now s.separators s.peaks (held_count a.among.round s.count) l.i a.len (omega arith) fit) at r.ensures in
+    let found = rw (same-run a.line.now.closeness a.line.now.bins.now s.separators s.peaks (held_count a.among.round s.count) l.i a.len (omega arith) fit) at r.ensures in
     let exact = handed-back {z = r.result.cost} (omega (arith, r.ensures.small)) in
     elim c.if-next-least.branch [
       | then-next-least w ↦ rw (w.best-is, w.least-is, exact) (searched-taken _ l.i l.best _ r.result l.invariant found (rw (exact) at w.if-next-least.true))
@@ -32,4 +32,4 @@ returns g c =
     let all = segments_held s.separators s.peaks 0 (held_count a.among.round s.count) in
     let last = last_start a.among.round s.count a.len in
     let q : c.loop-i.i ≡ suc last = omega (arith, c.start_count-end.ensures, c.first_start-from.ensures, known-held a.among.round s.count a.among.known a.len c.requires.le_len.3 c.requires.le_len.0 c.requires.le_len.1) in
-    searched-to a.closeness (line_reader a.h.now) all last a.len c.loop-i.i c.loop-i.best _ c.loop-i.invariant q
+    searched-to a.line.now.closeness (reader_of a.line.now) all last a.len c.loop-i.i c.loop-i.best _ c.loop-i.invariant q

@@ -3,4 +3,4 @@ use Rattle.segmentation.proofs.Searching.{Searched, run_from}
 use Rattle.segmentation.proofs.Segments.cheapest_below.Given as goal
 
 abbrev pub invariant-loop-i : goal.invariant-loop-i
-invariant-loop-i g l = Searched (run_from l.closeness l.h l.self.separators l.self.peaks l.fn.among.round l.self.count l.len) l.i l.best l.least
+invariant-loop-i g l = Searched (run_from l.line.closeness l.line.bins.now l.self.separators l.self.peaks l.fn.among.round l.self.count l.len) l.i l.best l.least

@@ -1,7 +1,7 @@
 -- A step leaves fewer segments, which cut the line still; joining them gives the same. Assumes nothing.
 use Rattle.std.proofs.Common.{sym, ap, ◌∙◌, arith, rules}
-use Rattle.segmentation.specs.Joining.{line_reader, line_joins}
-use Rattle.segmentation.specs.Held.{segments_held, join_found}
+use Rattle.segmentation.specs.Held.{held, join_found}
+use Rattle.segmentation.specs.Runs.{reader_of, joins_of}
 use Rattle.segmentation.proofs.Applied.{held-step}
 use Rattle.segmentation.proofs.Settled.{joins-none, line-shortens}
 use Rattle.segmentation.proofs.Stepping.{next-within, fewer, on-line-after}
@@ -14,7 +14,7 @@ apply-requires g c =
     let v = c.loop-join.self in
     let on = c.loop-join.invariant.on_line in
     let next = sym c.next_on_line.ensures ∙ ap join_found c.in-Some.is in
-    let w = next-within a.h.now v.separators v.peaks v.count on a.closeness c.in-Some.join next in
+    let w = next-within a.line.now v on c.in-Some.join next in
     (search rules, w)
 
 pub loop-join-smaller : goal.loop-join-smaller
@@ -23,7 +23,7 @@ loop-join-smaller g c =
     let v = c.loop-join.self in
     let t = c.apply.new.self in
     let next = sym c.next_on_line.ensures ∙ ap join_found c.in-Some.is in
-    fewer a.h.now v.separators v.peaks v.count c.loop-join.invariant.on_line a.closeness c.in-Some.join next t.separators t.peaks t.count c.apply.ensures.joined
+    fewer a.line.now v c.loop-join.invariant.on_line c.in-Some.join next t c.apply.ensures.joined
 
 pub loop-join-preserved : goal.loop-join-preserved
 loop-join-preserved g c =
@@ -35,9 +35,9 @@ loop-join-preserved g c =
     let made = c.apply.ensures.joined in
     let next = sym c.next_on_line.ensures ∙ ap join_found c.in-Some.is in
     record {
-      fewer = omega (arith, fewer a.h.now v.separators v.peaks v.count on a.closeness j next t.separators t.peaks t.count made, c.loop-join.invariant.fewer);
-      on_line = on-line-after a.h.now v.separators v.peaks v.count on a.closeness j next t.separators t.peaks t.count made (t.room.0 ∙ sym v.room.0) (t.room.1 ∙ sym v.room.1);
-      same = held-step (line_joins a.closeness (line_reader a.h.now)) (line-shortens a.closeness (line_reader a.h.now)) v.separators v.peaks t.separators t.peaks v.count t.count j next made
+      fewer = omega (arith, fewer a.line.now v on j next t made, c.loop-join.invariant.fewer);
+      on_line = on-line-after a.line.now v on j next t made;
+      same = held-step (joins_of a.line.now) (line-shortens a.line.now.closeness (reader_of a.line.now)) v.separators v.peaks t.separators t.peaks v.count t.count j next made
           ∙ c.loop-join.invariant.same;
     }
 
@@ -46,4 +46,4 @@ returns-clause-all g c =
     let a = c.args in
     let v = c.loop-join.self in
     let none = sym c.next_on_line.ensures ∙ ap join_found c.in_default.is in
-    sym (joins-none (line_joins a.closeness (line_reader a.h.now)) v.count (segments_held v.separators v.peaks 0 v.count) none) ∙ c.loop-join.invariant.same
+    sym (joins-none (joins_of a.line.now) v.count (held v) none) ∙ c.loop-join.invariant.same

@@ -20,7 +20,7 @@ join_all-requires g c =
     let a = c.args in
     let f = c.first_segments in
     let t = f.new.self in
-    (search rules, first-on-line a.h.now t.separators t.peaks t.count c.requires.small c.requires.in_bounds (search rules) (search rules) f.ensures)
+    (search rules, first-on-line _ t c.requires.small c.requires.in_bounds f.ensures)
 
 pub returns : goal.returns
 returns g c =

@@ -1,8 +1,7 @@
 -- The first length that gives a join gives the next one. Assumes nothing.
 use Rattle.std.proofs.Common.{sym, ◌∙◌, arith}
-use Rattle.segmentation.specs.Joining.{line_reader}
 use Rattle.segmentation.specs.Held.{segments_held}
-use Rattle.segmentation.specs.Runs.{held_count}
+use Rattle.segmentation.specs.Runs.{reader_of, held_count}
 use Rattle.segmentation.proofs.Searching.{from-two, length_found, length-passed, no_length}
 use Rattle.segmentation.proofs.Segments.next_join.Goals as goal
 
@@ -10,7 +9,7 @@ pub loop-len-init : goal.loop-len-init
 loop-len-init g c =
     let a = c.args in
     let s = a.self.now in
-    from-two a.closeness (line_reader a.h.now) (segments_held s.separators s.peaks 0 (held_count a.among.round s.count)) a.among.round s.count
+    from-two a.line.now.closeness (reader_of a.line.now) (segments_held s.separators s.peaks 0 (held_count a.among.round s.count)) a.among.round s.count
 
 pub returns-then-is_some : goal.returns-then-is_some
 returns-then-is_some g c =

@@ -16,7 +16,7 @@ returns g c =
     let cf = rw least-is at fall.ensures in
     let cr = rw (handed-back c.min-cap.type_inv, c.min-cap.ensures.value, min-is, handed-back fall.type_inv, least-is) at rise.ensures in
     rw (
-      run_is a.closeness a.h.now s.separators s.peaks (a.i + a.len) a.i a.len c.requires.le_len.0 (omega arith),
+      run_is a.line.now.closeness a.line.now.bins.now s.separators s.peaks (a.i + a.len) a.i a.len c.requires.le_len.0 (omega arith),
       c.by_costs.ensures,
       handed-back rise.type_inv,
       handed-back fall.type_inv,

@@ -9,7 +9,7 @@ use Rattle.verdict.proofs.weights.bar.Goals as goal
 
 pub units-requires : goal.units-requires
 units-requires c =
-    let s = setting-is c.args.closeness c.above_least.result (search rules) c.above_least.ensures in
+    let s = setting-is c.args.closeness c.above_least-above.result (search rules) c.above_least-above.ensures in
     omega (arith, setting-small s.0)
 
 -- the larger number, of which those of the closenesses below 0 are taken off
@@ -18,18 +18,18 @@ raised s bins l u e f = ap₂ (λ (a b : ℕ). a + b) (e ∙ ap (λ (n : ℕ). l
 
 pub overflow_add-lg : goal.overflow_add-lg
 overflow_add-lg c =
-    let s = setting-is c.args.closeness c.above_least.result (search rules) c.above_least.ensures in
-    omega (arith, raised c.above_least.result c.args.bins c.lg.result c.units.result c.lg.ensures c.units.ensures, raised-small c.above_least.result c.args.bins s.0 c.requires.0 c.requires.1)
+    let s = setting-is c.args.closeness c.above_least-above.result (search rules) c.above_least-above.ensures in
+    omega (arith, raised c.above_least-above.result c.args.bins c.lg.result c.units.result c.lg.ensures c.units.ensures, raised-small c.above_least-above.result c.args.bins s.0 c.requires.0 c.requires.1)
 
 pub difference-requires : goal.difference-requires
 unfolding settings_below least_closeness
 difference-requires c =
-    let s = setting-is c.args.closeness c.above_least.result (search rules) c.above_least.ensures in
-    (omega (arith, raised c.above_least.result c.args.bins c.lg.result c.units.result c.lg.ensures c.units.ensures, raised-small c.above_least.result c.args.bins s.0 c.requires.0 c.requires.1), omega (arith, c.units-2.ensures, below-units))
+    let s = setting-is c.args.closeness c.above_least-above.result (search rules) c.above_least-above.ensures in
+    (omega (arith, raised c.above_least-above.result c.args.bins c.lg.result c.units.result c.lg.ensures c.units.ensures, raised-small c.above_least-above.result c.args.bins s.0 c.requires.0 c.requires.1), omega (arith, c.units-2.ensures, below-units))
 
 pub returns : goal.returns
 unfolding settings_below least_closeness
 returns c =
-    let s = setting-is c.args.closeness c.above_least.result (search rules) c.above_least.ensures in
-    handed-back c.difference.type_inv ∙ c.difference.ensures ∙ ap₂ sub_ℕ (raised c.above_least.result c.args.bins c.lg.result c.units.result c.lg.ensures c.units.ensures) c.units-2.ensures
-    ∙ sym (bar-setting c.above_least.result c.args.bins) ∙ ap (λ (e : Closeness). bar e c.args.bins) s.1
+    let s = setting-is c.args.closeness c.above_least-above.result (search rules) c.above_least-above.ensures in
+    handed-back c.difference.type_inv ∙ c.difference.ensures ∙ ap₂ sub_ℕ (raised c.above_least-above.result c.args.bins c.lg.result c.units.result c.lg.ensures c.units.ensures) c.units-2.ensures
+    ∙ sym (bar-setting c.above_least-above.result c.args.bins) ∙ ap (λ (e : Closeness). bar e c.args.bins) s.1

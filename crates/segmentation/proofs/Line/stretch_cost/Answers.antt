@@ -4,7 +4,7 @@ use mir.Syntax.{w64}
 use mir.ValLaws.{to_z-of_z}
 use Rattle.lists.specs.Lists.{part}
 use Rattle.verdict.proofs.Machine.{handed-back}
-use Rattle.segmentation.proofs.runs.stretch_cost.Goals as goal
+use Rattle.segmentation.proofs.Line.stretch_cost.Goals as goal
 
 pub capped_cost-requires-clause-small : goal.capped_cost-requires-clause-small
 unfolding part
