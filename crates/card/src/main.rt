@@ -37,7 +37,7 @@ fn read_some<R: Read>(input: &mut R, room: &mut [u8]) -> io::Result<usize>
     input.read(room)
 }
 
-// Reads until the text ends or `text` is full.
+// Reads until the text ends or `text` is full. The loop goes on by what a read took, so it is no `for`.
 fn read_text<R: Read>(input: &mut R, text: &mut [u8]) -> io::Result<usize>
     requires { length text.old ≡ most_read }
     ensures prefix { ReadsAtMost result text.new }
@@ -68,7 +68,7 @@ fn answer(text: &[u8]) -> Printed
     printed
 }
 
-// Writes what is printed, by as many writes as it takes. A write that takes nothing has failed.
+// Writes what is printed, by as many writes as it takes; the loop goes on by what a write took. A write that takes nothing has failed.
 #[inline(never)]
 fn write<W: Write>(output: &mut W, printed: Printed) -> io::Result<()>
     requires { HasRoom printed }
@@ -87,7 +87,7 @@ fn write<W: Write>(output: &mut W, printed: Printed) -> io::Result<()>
     Ok(())
 }
 
-// Why there is no answer, or not all of it.
+// Why there is no answer, or not all of it. Both are errors of the same type, so which of them it is cannot be told by a `From`.
 enum Failure {
     Input(io::Error),
     Output(io::Error),

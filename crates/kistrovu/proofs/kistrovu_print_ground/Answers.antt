@@ -1,5 +1,5 @@
 -- `kistrovu_print_ground` keeps its promise. Assumes nothing.
-use Rattle.std.proofs.Common.{arith, refl, ◌∙◌, [], ◌∷◌}
+use Rattle.std.proofs.Common.{arith, refl, ℕ, ◌≡◌, ◌∙◌, [], ◌∷◌, length}
 use Rattle.lists.proofs.Buffers.{over-padded}
 use Rattle.palette.specs.Cards.{most_entries}
 use Rattle.swatch.specs.Output.{printed_line, printed_most}
@@ -7,8 +7,12 @@ use Rattle.swatch.proofs.PrintedLengths.{line-length}
 use Rattle.kistrovu.specs.Answers.{ground_answer}
 use Rattle.kistrovu.proofs.kistrovu_print_ground.Goals as goal
 
+-- whatever the number
+seven-bytes : (n k : ℕ) → k ≡ length (printed_line (n ∷ [])) → k ≡ 7
+seven-bytes n k e = e ∙ line-length (n ∷ [])
+
 pub overflow_cast-result : goal.overflow_cast-result
-overflow_cast-result c = omega (arith, c.print_number-len.ensures.len, line-length (c.args.number ∷ []))
+overflow_cast-result c = omega (arith, seven-bytes _ _ c.print_number-len.ensures.len)
 
 pub returns : goal.returns
 unfolding ground_answer printed_most most_entries
