@@ -1,8 +1,9 @@
 // The grounds for turning a call down, and the checks of the calls: each answers with the first ground that holds, of those that
-// concern the call.
+// concern the call. A check that looks at a closeness hands it back as one that is offered.
 #![tactic(auto)]
 
 ghost use Rattle.std.specs.Prelude.{◌≡◌, ◌≤◌, [], ◌∷◌, length, sum};
+ghost use Rattle.std.specs.Result.{IfOk};
 ghost use Rattle.grounds.specs.Grounds.{
   first_ground,
   bad_closeness,
@@ -19,7 +20,7 @@ ghost use Rattle.grounds.specs.Checks.{ground_number, number_of, ground_of};
 use joinlog::RECORD_NUMBERS;
 use palette::MOST_PIXELS;
 use swatch::Unread;
-use verdict::{LEAST_CLOSENESS, MOST_CLOSENESS};
+use verdict::{Closeness, LEAST_CLOSENESS, MOST_CLOSENESS};
 
 // The grounds, with the numbers that docs/METHOD.md gives them.
 #[derive(Clone, Copy, PartialEq, Eq)]
@@ -78,13 +79,14 @@ pub fn check_fit(h: &[u32]) -> Result<(), Ground>
     Ok(())
 }
 
-fn check_closeness(closeness: i32) -> Result<(), Ground>
-    ensures { number_of result ≡ first_ground (bad_closeness closeness ∷ []) }
+fn check_closeness(closeness: i32) -> Result<Closeness, Ground>
+    ensures number { number_of result ≡ first_ground (bad_closeness closeness ∷ []) }
+    ensures given { IfOk result (λ c. c ≡ closeness) }
 {
     if closeness < LEAST_CLOSENESS || MOST_CLOSENESS < closeness {
         return Err(Ground::Closeness);
     }
-    Ok(())
+    Ok(Closeness::new(closeness))
 }
 
 fn check_labels(labels: usize, places: usize) -> Result<(), Ground>
@@ -96,33 +98,37 @@ fn check_labels(labels: usize, places: usize) -> Result<(), Ground>
     Ok(())
 }
 
-pub fn check_verdict(h: &[u32], closeness: i32) -> Result<(), Ground>
-    ensures { number_of result ≡ verdict_number closeness h.now }
+pub fn check_verdict(h: &[u32], closeness: i32) -> Result<Closeness, Ground>
+    ensures number { number_of result ≡ verdict_number closeness h.now }
+    ensures given { IfOk result (λ c. c ≡ closeness) }
 {
     check_fit(h)?;
     check_closeness(closeness)
 }
 
-pub fn check_modes(h: &[u32], closeness: i32, places: usize) -> Result<(), Ground>
-    ensures { number_of result ≡ modes_number closeness h.now places }
+pub fn check_modes(h: &[u32], closeness: i32, places: usize) -> Result<Closeness, Ground>
+    ensures number { number_of result ≡ modes_number closeness h.now places }
+    ensures given { IfOk result (λ c. c ≡ closeness) }
 {
-    check_verdict(h, closeness)?;
+    let checked = check_verdict(h, closeness)?;
     if places < h.len() {
         return Err(Ground::Places);
     }
-    Ok(())
+    Ok(checked)
 }
 
 // A call that writes a log into a list of so many numbers.
-pub fn check_log(h: &[u32], closeness: i32, numbers: usize) -> Result<(), Ground>
-    ensures { number_of result ≡ log_number closeness h.now numbers }
+pub fn check_log(h: &[u32], closeness: i32, numbers: usize) -> Result<Closeness, Ground>
+    ensures number { number_of result ≡ log_number closeness h.now numbers }
+    ensures given { IfOk result (λ c. c ≡ closeness) }
 {
     check_modes(h, closeness, numbers / RECORD_NUMBERS)
 }
 
 // A card call, as far as it can be checked before the entries are found.
-pub fn check_card(pixels: &[u8], closeness: i32, places: usize) -> Result<(), Ground>
-    ensures { number_of result ≡ asked_number closeness pixels.now places }
+pub fn check_card(pixels: &[u8], closeness: i32, places: usize) -> Result<Closeness, Ground>
+    ensures number { number_of result ≡ asked_number closeness pixels.now places }
+    ensures given { IfOk result (λ c. c ≡ closeness) }
 {
     let bytes = pixels.len();
     if bytes == 0 || 0 < bytes % 3 {
@@ -131,8 +137,9 @@ pub fn check_card(pixels: &[u8], closeness: i32, places: usize) -> Result<(), Gr
     if MOST_PIXELS < bytes / 3 {
         return Err(Ground::Pixels);
     }
-    check_closeness(closeness)?;
-    check_labels(bytes / 3, places)
+    let checked = check_closeness(closeness)?;
+    check_labels(bytes / 3, places)?;
+    Ok(checked)
 }
 
 // A widening of one-byte labels into a list of so many places.

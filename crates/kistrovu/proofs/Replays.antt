@@ -1,25 +1,31 @@
 -- The log of a line and its replay: what the calls hand back and leave, and that a replay accepts the line's own log alone. Assumes nothing.
 use Prim.Native.Nat.{ℕ, ◌*◌, ◌/◌, ◌≤◌}
 use mathlib.Core.Path.{◌≡◌, refl, sym, ap, ◌∙◌}
-use mathlib.Core.Bool.{Bool, true, false}
+use mathlib.Core.Bool.{Bool, true, false, cond}
 use mathlib.Core.List.{List}
 use native.Mathlib.Nat.{div-add-mod'}
 use native.Mathlib.Omega.{arith}
 use native.Mathlib.Decide.{ℕ_discrete}
 use lib.IntN.{ℤ}
 use lib.ListN.{length, take}
+use Rattle.std.specs.Prelude.{Option, Some, None, Result, OnOk}
+use Rattle.std.specs.Option.{ok_or}
 use Rattle.lists.specs.Lists.{over}
 use Rattle.lists.proofs.Buffers.{over-front}
 use Rattle.verdict.specs.Test.{Closeness}
 use Rattle.segmentation.specs.Joining.{line_separators}
-use Rattle.joinlog.specs.JoinLog.{record_numbers, made_on_line, line_log, same_numbers}
+use Rattle.segmentation.specs.Finished.{LineFinished}
+use Rattle.joinlog.specs.JoinLog.{record_numbers, made_on_line, line_log, same_numbers, Replayed}
 use Rattle.joinlog.proofs.Always.{log-always-decided, line-log-same, line-log-length}
 use Rattle.grounds.specs.Grounds.{modes_number, log_number, replay_number}
 use Rattle.grounds.proofs.Served.{log-is-modes, modes-below-20, replay-turned-down, replay-same, replay-other, replay-served}
+use Rattle.grounds.specs.declared.Ground.{Ground}
+use Rattle.grounds.specs.declared.Ground.TheVariants.{Log}
 use Rattle.kistrovu.specs.declared.LogAnswer.{LogAnswer}
 use Rattle.kistrovu.specs.Answers.{modes_answer, modes_list, line_answer, line_list, log_answer, log_list, replay_answer, replay_list}
+use Rattle.kistrovu.specs.Calls.{modes_given}
 use Rattle.kistrovu.specs.Facts.{AcceptsOnly, written_log, LogReplays}
-use Rattle.kistrovu.proofs.Modes.{ModesAccepted, accepted, is-served, is-turned-down}
+use Rattle.kistrovu.proofs.Modes.{ModesAccepted, accepted, is-served, is-turned-down, line-finished, list-served, list-refused}
 
 -- ---- the log call
 module _ (e : Closeness) (h : List ℕ) where
@@ -82,6 +88,36 @@ module _ (e : Closeness) (h : List ℕ) (log : List ℤ) (places : ℕ) where
         departed = λ n. decided.departs (only-others-get-20 n);
         departs = λ z d. other-gets-20 z (decided.never d);
       }
+
+-- ---- what is handed back and left, of a log that is the line's own or another
+module _ (e : Closeness) (h : List ℕ) (log : List ℤ) (list : List ℕ) where
+  pub record ReplayMade (r : Result ℕ Ground) (after : List ℕ) : Type 0 where
+    pub answer : modes_given r ≡ replay_answer e h log (length list)
+    pub left : after ≡ replay_list e h log list
+    pub replayed : OnOk r (Replayed e h log × LineFinished e h)
+
+  -- the code follows it at the closeness that was checked, which is the same
+  pub replay-made : modes_number e h (length list) ≡ 0 → (at : Closeness) → at ≡ e → (found : Option ℕ) (after : List ℕ)
+      → found ≡ cond (same_numbers log (line_log at h)) (Some (length (line_separators at h))) None
+      → after ≡ cond (same_numbers log (line_log at h)) (over (line_separators at h) list) list → ReplayMade (ok_or found Log) after
+  unfolding replay_answer replay_list
+  replay-made z at same found after f a = go (same_numbers log (line_log e h)) refl
+    where
+      go : (t : Bool) → same_numbers log (line_log e h) ≡ t → ReplayMade (ok_or found Log) after
+      go true q =
+          let is : found ≡ Some (length (line_separators e h)) = f ∙ ap (λ (x : Closeness). cond (same_numbers log (line_log x h)) (Some (length (line_separators x h))) None) same ∙ ap (λ (t : Bool). cond t (Some (length (line_separators e h))) None) q in
+          let left : after ≡ over (line_separators e h) list = a ∙ ap (λ (x : Closeness). cond (same_numbers log (line_log x h)) (over (line_separators x h) list) list) same ∙ ap (λ (t : Bool). cond t (over (line_separators e h) list) list) q in
+          let listed = list-served line_separators e h list (replay_number e h log (length list)) (replay-same e h log (length list) z q) e refl _ after refl left in
+          rw is (record {
+            answer = listed.answer;
+            left = listed.left;
+            replayed = ((log-always-decided e h log).replayed ((line-log-same e h log).0 q), line-finished e h list 0 (sym z) refl);
+          })
+      go false q =
+          let is : found ≡ None = f ∙ ap (λ (x : Closeness). cond (same_numbers log (line_log x h)) (Some (length (line_separators x h))) None) same ∙ ap (λ (t : Bool). cond t (Some (length (line_separators e h))) None) q in
+          let left : after ≡ list = a ∙ ap (λ (x : Closeness). cond (same_numbers log (line_log x h)) (over (line_separators x h) list) list) same ∙ ap (λ (t : Bool). cond t (over (line_separators e h) list) list) q in
+          let listed = list-refused line_separators e h list (replay_number e h log (length list)) Log (sym (replay-other e h log (length list) z q)) in
+          rw is (record { answer = listed.answer; left = left ∙ listed.left; replayed = tt })
 
 -- ---- a replay of what the log call wrote
 module _ (e : Closeness) (h : List ℕ) (list : List ℤ) (z : log_number e h (length list) ≡ 0) where

@@ -212,12 +212,20 @@ pub fn kistrovu_card(pixels: &[u8], closeness: i32, labels: &mut [u16]) -> Card
         × (labels.new ≡ label_list closeness pixels.now labels.old)
         × IfServed result.number (SoundAnswer closeness pixels.now result labels.new) }
 {
-    let mut entries = palette::no_entries();
-    let (number, len) = answered(card(pixels, closeness, labels, &mut entries), 0);
-    Card {
-        number,
-        len,
-        entries,
+    match card(pixels, closeness, labels) {
+        Ok(made) => {
+            let entries = made.entries;
+            Card {
+                number: 0,
+                len: made.total,
+                entries,
+            }
+        }
+        Err(why) => Card {
+            number: why.number(),
+            len: 0,
+            entries: palette::no_entries(),
+        },
     }
 }
 

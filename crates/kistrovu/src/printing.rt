@@ -1,6 +1,5 @@
 // The text of a swatch read, and the text of its card printed.
 ghost use Rattle.std.specs.Prelude.{◌≡◌, ◌≤◌, ◌*◌, ◌/◌, length};
-ghost use Rattle.verdict.specs.Settings.{last_setting, closeness_of};
 ghost use Rattle.palette.specs.Cards.{pixels_of};
 ghost use Rattle.making.specs.Making.{card_entries};
 ghost use Rattle.swatch.specs.Output.{printed_most};
@@ -8,26 +7,21 @@ ghost use Rattle.swatch.specs.Reading.{most_swatch_pixels};
 ghost use Rattle.kistrovu.specs.Texts.{PixelsPrinted, TextPrinted};
 
 use grounds::Ground;
-use making::CardEntries;
+use making::{CardEntries, Scratch};
 use palette::MOST_ENTRIES;
 use swatch::MOST_SWATCH_PIXELS;
+use verdict::Closeness;
 
 // The closeness that every text is worked at, and that is printed.
 const PROGRAM_CLOSENESS: u32 = 0;
 
 // The entries of a swatch, in scratch for as many pixels as it may have: a quarter of what the largest image asks. A text has no labels.
-fn swatch_entries(pixels: &[u8], setting: u32) -> CardEntries
-    requires { (length pixels.now ≡ 3 * (length pixels.now / 3)) × (length pixels.now ≤ 3 * most_swatch_pixels) × (setting ≤ last_setting) }
-    ensures { result ≡ card_entries (closeness_of setting) (pixels_of pixels.now) }
+fn swatch_entries(pixels: &[u8], closeness: Closeness) -> CardEntries
+    requires { (length pixels.now ≡ 3 * (length pixels.now / 3)) × (length pixels.now ≤ 3 * most_swatch_pixels) }
+    ensures { result ≡ card_entries closeness (pixels_of pixels.now) }
 {
-    let mut order = [0u16; MOST_SWATCH_PIXELS];
-    let mut other = [0u16; MOST_SWATCH_PIXELS];
-    let mut keys = [0u8; MOST_SWATCH_PIXELS];
-    let mut codes = [0u32; MOST_ENTRIES];
-    let mut sizes = [0u32; MOST_ENTRIES];
-    making::make_entries(
-        pixels, setting, &mut order, &mut other, &mut keys, &mut codes, &mut sizes,
-    )
+    let mut scratch = Scratch::<MOST_SWATCH_PIXELS>::new();
+    making::make_entries(pixels, closeness, &mut scratch)
 }
 
 // The card of a swatch, printed: how many bytes it has.
@@ -36,7 +30,7 @@ fn print_pixels(pixels: &[u8], out: &mut [u8]) -> Result<u32, Ground>
     ensures { PixelsPrinted pixels.now out.old out.new result }
 {
     let n = pixels.len() / 3;
-    let made = swatch_entries(pixels, verdict::setting_of(PROGRAM_CLOSENESS as i32));
+    let made = swatch_entries(pixels, Closeness::new(PROGRAM_CLOSENESS as i32));
     if MOST_ENTRIES < made.total as usize {
         return Err(Ground::Entries);
     }

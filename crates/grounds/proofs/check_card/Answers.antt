@@ -13,18 +13,18 @@ use Rattle.grounds.proofs.Served.{grounds-served, grounds-turned-down}
 use Rattle.grounds.proofs.check_card.Goals as goal
 use Rattle.grounds.proofs.check_card.Goals.{then-bytes-eq0-via-then-bytes-eq0, then-bytes-eq0-via-else-bytes-eq0+then-bytes-gt0}
 
-pub returns-then-bytes-eq0 : goal.returns-then-bytes-eq0
+pub returns-then-bytes-eq0-clause-number : goal.returns-then-bytes-eq0-clause-number
 unfolding asked_number first_ground
-returns-then-bytes-eq0 c =
+returns-then-bytes-eq0-clause-number c =
     let n = length c.args.pixels.now in
     elim c.then-bytes-eq0.branch [
       | then-bytes-eq0-via-then-bytes-eq0 w ↦ rw (eq-eqb n 0 w.if-bytes-eq0.true) refl
       | then-bytes-eq0-via-else-bytes-eq0+then-bytes-gt0 w ↦ rw (ne_eqb n 0 w.if-bytes-eq0.false, lt-ltb 0 (n % 3) w.if-bytes-gt0.true) refl
     ]
 
-pub returns-then-bytes-gt-MOST_PIXELS : goal.returns-then-bytes-gt-MOST_PIXELS
+pub returns-then-bytes-gt-MOST_PIXELS-clause-number : goal.returns-then-bytes-gt-MOST_PIXELS-clause-number
 unfolding asked_number first_ground most_pixels
-returns-then-bytes-gt-MOST_PIXELS c =
+returns-then-bytes-gt-MOST_PIXELS-clause-number c =
     let n = length c.args.pixels.now in
     rw (ne_eqb n 0 c.if-bytes-eq0.false, le-ltb 0 (n % 3) c.if-bytes-gt0.false, lt-ltb 65536 (n / 3) c.if-bytes-gt-MOST_PIXELS.true) refl
 
@@ -34,18 +34,31 @@ asked-left : (e : Closeness) (bytes : List ℕ) (places : ℕ) → (length bytes
 unfolding asked_number first_ground most_pixels
 asked-left e bytes places some whole few = rw (ne_eqb (length bytes) 0 some, le-ltb 0 (length bytes % 3) whole, le-ltb 65536 (length bytes / 3) few) refl
 
-pub returns-in_err-check_closeness : goal.returns-in_err-check_closeness
-returns-in_err-check_closeness c =
+pub returns-in_err-checked-clause-number : goal.returns-in_err-checked-clause-number
+returns-in_err-checked-clause-number c =
     let p = err_from_is_err_and c.from_residual.result c.from_residual.ensures.1 in
-    let said : ground_number c.in_err-check_closeness.field-0.0 ≡ first_ground (bad_closeness c.args.closeness ∷ []) = rw (to_z-of_z w32 c.args.closeness c.ranges.closeness) at c.in_err-check_closeness.ensures in
+    let said : ground_number c.in_err-checked.field-0.0 ≡ first_ground (bad_closeness c.args.closeness ∷ []) = rw (to_z-of_z w32 c.args.closeness c.ranges.closeness) at c.in_err-checked.ensures.number in
     rw (p.1, p.2)
     (said
-    ∙ sym (grounds-turned-down (bad_closeness c.args.closeness ∷ []) (bad_labels (length c.args.pixels.now / 3) c.args.places ∷ []) (λ z. ground-some c.in_err-check_closeness.field-0.0 (said ∙ z)))
+    ∙ sym (grounds-turned-down (bad_closeness c.args.closeness ∷ []) (bad_labels (length c.args.pixels.now / 3) c.args.places ∷ []) (λ z. ground-some c.in_err-checked.field-0.0 (said ∙ z)))
     ∙ asked-left c.args.closeness c.args.pixels.now c.args.places c.if-bytes-eq0.false c.if-bytes-gt0.false c.if-bytes-gt-MOST_PIXELS.false)
 
-pub returns : goal.returns
-returns c =
-    let said : 0 ≡ first_ground (bad_closeness c.args.closeness ∷ []) = rw (to_z-of_z w32 c.args.closeness c.ranges.closeness) at c.in_ok-check_closeness.ensures in
-    c.check_labels.ensures
-    ∙ sym (grounds-served (bad_closeness c.args.closeness ∷ []) (bad_labels (length c.args.pixels.now / 3) c.args.places ∷ []) (omega arith, tt) (sym said))
-    ∙ asked-left c.args.closeness c.args.pixels.now c.args.places c.if-bytes-eq0.false c.if-bytes-gt0.false c.if-bytes-gt-MOST_PIXELS.false
+-- those grounds, where neither ground 4 nor ground 5 nor ground 8 holds
+labels_left : (e : Closeness) (bytes : List ℕ) (places : ℕ) → (length bytes ≡ 0 → ⊥) → length bytes % 3 ≤ 0 → length bytes / 3 ≤ 65536 → first_ground (bad_closeness e ∷ []) ≡ 0
+    → first_ground (bad_labels (length bytes / 3) places ∷ []) ≡ asked_number e bytes places
+labels_left e bytes places some whole few close =
+    sym (grounds-served (bad_closeness e ∷ []) (bad_labels (length bytes / 3) places ∷ []) (omega arith, tt) close) ∙ asked-left e bytes places some whole few
+
+pub returns-in_err-check_labels-clause-number : goal.returns-in_err-check_labels-clause-number
+returns-in_err-check_labels-clause-number c =
+    let p = err_from_is_err_and c.from_residual-in_err-check_labels.result c.from_residual-in_err-check_labels.ensures.1 in
+    let said : 0 ≡ first_ground (bad_closeness c.args.closeness ∷ []) = rw (to_z-of_z w32 c.args.closeness c.ranges.closeness) at c.in_ok-checked.ensures.number in
+    rw (p.1, p.2)
+    (c.in_err-check_labels.ensures
+    ∙ labels_left c.args.closeness c.args.pixels.now c.args.places c.if-bytes-eq0.false c.if-bytes-gt0.false c.if-bytes-gt-MOST_PIXELS.false (sym said))
+
+pub returns-clause-number : goal.returns-clause-number
+returns-clause-number c =
+    let said : 0 ≡ first_ground (bad_closeness c.args.closeness ∷ []) = rw (to_z-of_z w32 c.args.closeness c.ranges.closeness) at c.in_ok-checked.ensures.number in
+    c.in_ok-check_labels.ensures
+    ∙ labels_left c.args.closeness c.args.pixels.now c.args.places c.if-bytes-eq0.false c.if-bytes-gt0.false c.if-bytes-gt-MOST_PIXELS.false (sym said)

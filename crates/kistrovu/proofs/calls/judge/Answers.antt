@@ -14,41 +14,37 @@ use Rattle.grounds.proofs.Served.{fit-served, verdict-served}
 use Rattle.kistrovu.specs.Answers.{verdict_answer}
 use Rattle.kistrovu.proofs.calls.judge.Goals as goal
 
-pub returns-in_err-check_verdict-clause-answer : goal.returns-in_err-check_verdict-clause-answer
+pub returns-in_err-closeness-clause-answer : goal.returns-in_err-closeness-clause-answer
 unfolding verdict_answer
-returns-in_err-check_verdict-clause-answer c =
+returns-in_err-closeness-clause-answer c =
     let p = err_from_is_err_and c.from_residual.result c.from_residual.ensures.1 in
-    let why = c.in_err-check_verdict.field-0.0 in
-    let said : ground_number why ≡ verdict_number c.args.closeness c.args.histogram.now = rw (to_z-of_z w32 c.args.closeness c.ranges.closeness) at c.in_err-check_verdict.ensures in
+    let why = c.in_err-closeness.field-0.0 in
+    let said : ground_number c.in_err-closeness.field-0.0 ≡ verdict_number c.args.closeness c.args.histogram.now = rw (to_z-of_z w32 c.args.closeness c.ranges.closeness) at c.in_err-closeness.ensures.number in
     rw (p.1, p.2) (rw (← said, ne_eqb (ground_number why) 0 (ground-some why)) refl)
-
-pub setting_of-requires : goal.setting_of-requires
-setting_of-requires c =
-    let z : verdict_number c.args.closeness c.args.histogram.now ≡ 0 = sym (rw (to_z-of_z w32 c.args.closeness c.ranges.closeness) at c.in_ok-check_verdict.ensures) in
-    rw (to_z-of_z w32 c.args.closeness c.ranges.closeness) (verdict-served c.args.closeness c.args.histogram.now z).1
 
 pub judge-requires-clause-small : goal.judge-requires-clause-small
 judge-requires-clause-small c =
-    let z : verdict_number c.args.closeness c.args.histogram.now ≡ 0 = sym (rw (to_z-of_z w32 c.args.closeness c.ranges.closeness) at c.in_ok-check_verdict.ensures) in
+    let z : verdict_number c.args.closeness c.args.histogram.now ≡ 0 = sym (rw (to_z-of_z w32 c.args.closeness c.ranges.closeness) at c.in_ok-closeness.ensures.number) in
     let a = fit-served c.args.histogram.now (verdict-served c.args.closeness c.args.histogram.now z).0 in
     record { bins = omega (arith, a.bins); counts = omega (arith, a.counts) }
 
 pub judge-requires-clause-in_bounds : goal.judge-requires-clause-in_bounds
 judge-requires-clause-in_bounds c =
-    let z : verdict_number c.args.closeness c.args.histogram.now ≡ 0 = sym (rw (to_z-of_z w32 c.args.closeness c.ranges.closeness) at c.in_ok-check_verdict.ensures) in
+    let z : verdict_number c.args.closeness c.args.histogram.now ≡ 0 = sym (rw (to_z-of_z w32 c.args.closeness c.ranges.closeness) at c.in_ok-closeness.ensures.number) in
     let a = fit-served c.args.histogram.now (verdict-served c.args.closeness c.args.histogram.now z).0 in
-    (omega (arith, a.some), c.setting_of.ensures.0)
+    omega (arith, a.some)
 
 pub returns-clause-answer : goal.returns-clause-answer
 unfolding verdict_answer
 returns-clause-answer c =
-    let z : verdict_number c.args.closeness c.args.histogram.now ≡ 0 = sym (rw (to_z-of_z w32 c.args.closeness c.ranges.closeness) at c.in_ok-check_verdict.ensures) in
+    let z : verdict_number c.args.closeness c.args.histogram.now ≡ 0 = sym (rw (to_z-of_z w32 c.args.closeness c.ranges.closeness) at c.in_ok-closeness.ensures.number) in
+    let is : c.in_ok-closeness.closeness ≡ c.args.closeness = c.in_ok-closeness.ensures.given ∙ to_z-of_z w32 c.args.closeness c.ranges.closeness in
     let judged : c.judge.result ≡ verdict_of c.args.closeness (direction c.args.rising) c.args.histogram.now =
-    c.judge.ensures ∙ ap (λ (e : Closeness). verdict_of e (direction c.args.rising) c.args.histogram.now) (c.setting_of.ensures.1 ∙ to_z-of_z w32 c.args.closeness c.ranges.closeness) in
+    c.judge.ensures ∙ ap (λ (e : Closeness). verdict_of e (direction c.args.rising) c.args.histogram.now) is in
     rw (z, judged) refl
 
 pub returns-clause-sound : goal.returns-clause-sound
 returns-clause-sound c =
-    let z : verdict_number c.args.closeness c.args.histogram.now ≡ 0 = sym (rw (to_z-of_z w32 c.args.closeness c.ranges.closeness) at c.in_ok-check_verdict.ensures) in
+    let z : verdict_number c.args.closeness c.args.histogram.now ≡ 0 = sym (rw (to_z-of_z w32 c.args.closeness c.ranges.closeness) at c.in_ok-closeness.ensures.number) in
     let a = fit-served c.args.histogram.now (verdict-served c.args.closeness c.args.histogram.now z).0 in
     verdict-sound c.args.closeness (direction c.args.rising) c.args.histogram.now (omega (arith, a.bins)) (omega (arith, a.counts))

@@ -18,9 +18,9 @@ use Rattle.kistrovu.proofs.Cards.{total-is}
 use Rattle.kistrovu.proofs.Texts.{entries-held}
 use Rattle.kistrovu.proofs.printing.print_pixels.Goals as goal
 
-pub setting_of-requires : goal.setting_of-requires
+pub new-requires : goal.new-requires
 unfolding least_closeness most_closeness
-setting_of-requires c = record { least = record { le = tt }; most = record { le = tt } }
+new-requires c = record { least = record { le = tt }; most = record { le = tt } }
 
 sound : (bytes : List ℕ) → length bytes ≡ 3 * (length bytes / 3) → length bytes ≤ 3 * most_swatch_pixels → ((j : ℕ) → get_or bytes j 0 < 256) → SoundCard (pos 0) (pixels_of bytes)
 unfolding most_pixels most_swatch_pixels
@@ -33,7 +33,7 @@ unfolding most_entries over program_closeness
 returns-then-made-gt-MOST_ENTRIES c =
     let bytes = c.args.pixels.now in
     let ps = pixels_of bytes in
-    let found : c.swatch_entries-made.result ≡ card_entries (pos 0) ps = c.swatch_entries-made.ensures ∙ ap (λ (e : Closeness). card_entries e ps) c.setting_of.ensures.1 in
+    let found : c.swatch_entries-made.result ≡ card_entries (pos 0) ps = c.swatch_entries-made.ensures ∙ ap (λ (e : Closeness). card_entries e ps) c.new.ensures in
     let total : c.swatch_entries-made.result.total ≡ length (entries (pos 0) ps) = ap (λ (x : CardEntries). x.total) found ∙ total-is (pos 0) ps in
     let many = lt-ltb most_entries (length (entries (pos 0) ps)) (omega (arith, total, c.if-made-gt-MOST_ENTRIES.true)) in
     (rw many (record { numbered = refl; long = refl; written = refl }), sound bytes c.requires.0 c.requires.1 (λ j. let known = c.type_inv.pixels j in omega arith))
@@ -51,7 +51,7 @@ unfolding most_entries
 print_card-requires c =
     let bytes = c.args.pixels.now in
     let ps = pixels_of bytes in
-    let found : c.swatch_entries-made.result ≡ card_entries (pos 0) ps = c.swatch_entries-made.ensures ∙ ap (λ (e : Closeness). card_entries e ps) c.setting_of.ensures.1 in
+    let found : c.swatch_entries-made.result ≡ card_entries (pos 0) ps = c.swatch_entries-made.ensures ∙ ap (λ (e : Closeness). card_entries e ps) c.new.ensures in
     let total : c.swatch_entries-made.result.total ≡ length (entries (pos 0) ps) = ap (λ (x : CardEntries). x.total) found ∙ total-is (pos 0) ps in
     (omega (arith, ap length (held bytes c.swatch_entries-made.result found c.if-made-gt-MOST_ENTRIES.false), total, c.if-made-gt-MOST_ENTRIES.false), c.requires.2)
 
@@ -60,7 +60,7 @@ unfolding most_entries printed_most
 overflow_cast-result c =
     let bytes = c.args.pixels.now in
     let ps = pixels_of bytes in
-    let found : c.swatch_entries-made.result ≡ card_entries (pos 0) ps = c.swatch_entries-made.ensures ∙ ap (λ (e : Closeness). card_entries e ps) c.setting_of.ensures.1 in
+    let found : c.swatch_entries-made.result ≡ card_entries (pos 0) ps = c.swatch_entries-made.ensures ∙ ap (λ (e : Closeness). card_entries e ps) c.new.ensures in
     let total : c.swatch_entries-made.result.total ≡ length (entries (pos 0) ps) = ap (λ (x : CardEntries). x.total) found ∙ total-is (pos 0) ps in
     let es = take c.swatch_entries-made.result.total c.swatch_entries-made.result.entries in
     let few : length es ≤ most_entries = omega (arith, ap length (held bytes c.swatch_entries-made.result found c.if-made-gt-MOST_ENTRIES.false), total, c.if-made-gt-MOST_ENTRIES.false) in
@@ -71,7 +71,7 @@ unfolding program_closeness most_entries
 returns c =
     let bytes = c.args.pixels.now in
     let ps = pixels_of bytes in
-    let found : c.swatch_entries-made.result ≡ card_entries (pos 0) ps = c.swatch_entries-made.ensures ∙ ap (λ (e : Closeness). card_entries e ps) c.setting_of.ensures.1 in
+    let found : c.swatch_entries-made.result ≡ card_entries (pos 0) ps = c.swatch_entries-made.ensures ∙ ap (λ (e : Closeness). card_entries e ps) c.new.ensures in
     let total : c.swatch_entries-made.result.total ≡ length (entries (pos 0) ps) = ap (λ (x : CardEntries). x.total) found ∙ total-is (pos 0) ps in
     let es = entries (pos 0) ps in
     let long = pixels-length bytes (length bytes / 3) c.requires.0 in
