@@ -2,17 +2,19 @@
 use Rattle.std.specs.Prelude.{ℕ, ◌+◌, ◌≤◌, ◌<◌, ◌≡◌, List, ◌++◌, length, get_or}
 use Rattle.lists.specs.Lists.{total}
 use Rattle.pooling.specs.Limits.{most_ring_bins, most_ring_counts}
-use Rattle.segmentation.specs.Held.{segments_held}
+use Rattle.segmentation.specs.declared.Line.{Line}
+use Rattle.segmentation.specs.declared.Segments.{Segments}
+use Rattle.segmentation.specs.Held.{held}
 use Rattle.segmentation.specs.Runs.{Prepared, OnRing}
 
--- two turns of a ring of `bins` bins, and two lists that hold its n modes, with room for them twice over
-pub record RingHeld (round separators peaks : List ℕ) (n bins : ℕ) : Type 0 where
+-- two turns of a ring of `bins` bins, and its modes, with room for them twice over
+pub record RingHeld {N : ℕ} (line : Line) (modes : Segments N) (bins : ℕ) : Type 0 where
   pub turn : List ℕ
-  pub turns : round ≡ turn ++ turn
+  pub turns : line.bins.now ≡ turn ++ turn
   pub as_long : length turn ≡ bins
   pub limits : (bins ≤ most_ring_bins) × (total turn ≤ most_ring_counts)
-  pub prepared : Prepared separators peaks (n + n)
-  pub on_ring : OnRing bins turn (segments_held separators peaks 0 n)
+  pub prepared : Prepared modes.separators modes.peaks (modes.count + modes.count)
+  pub on_ring : OnRing bins turn (held modes)
 
 -- the n members from number `from` on are no larger than a bound
 abbrev pub EachTo : (bound : ℕ) (xs : List ℕ) (from n : ℕ) → Type 0

@@ -45,7 +45,7 @@ fn next_round(
     bins: usize,
     known: usize,
 ) -> Option<Join>
-    requires ring_held { RingHeld turns.now.bins.now modes.old.separators modes.old.peaks modes.old.count bins }
+    requires ring_held { RingHeld turns.now modes.old bins }
     requires none_among { NoneAmong turns.now.closeness (reader_of turns.now) (held modes.old) known × (known ≤ modes.old.count) }
     ensures next { join_found result ≡ next_round turns.now.closeness (reader_of turns.now) bins (held modes.old) }
     ensures held { (modes.new.count ≡ modes.old.count) × (held modes.new ≡ held modes.old) }
@@ -62,7 +62,7 @@ fn next_round(
 // None of the line's own runs is joinable, so the first run that is goes past the opening, and its mode becomes the last. All others are modes of the line still, and no run
 // of them alone is joinable. So each join has the last mode in it, and only runs that have it are looked at.
 pub fn join_round(modes: &mut Segments<HELD_TWICE>, turns: &Line, bins: usize)
-    requires ring_held { RingHeld turns.now.bins.now modes.old.separators modes.old.peaks modes.old.count bins }
+    requires ring_held { RingHeld turns.now modes.old bins }
     requires none_among { NoneAmong turns.now.closeness (reader_of turns.now) (held modes.old) modes.old.count }
     ensures { (held modes.new ≡ join_all modes.old.count (ring_joins turns.now.closeness (reader_of turns.now) bins) (held modes.old))
         × (modes.new.count ≤ modes.old.count) }

@@ -14,7 +14,7 @@ invariant-loop-join l =
     let left = segments_held l.modes.separators l.modes.peaks 0 l.modes.count in
     record {
       fewer : l.modes.count ≤ first.count;
-      ring : RingHeld l.turns.bins.now l.modes.separators l.modes.peaks l.modes.count l.bins;
+      ring : RingHeld l.turns l.modes l.bins;
       none : NoneAmong l.turns.closeness (reader_of l.turns) left l.known;
       known : (l.known ≤ l.modes.count) × (l.modes.count ≤ l.known + 1);
       same : join_all l.modes.count w left ≡ join_all first.count w (segments_held first.separators first.peaks 0 first.count);

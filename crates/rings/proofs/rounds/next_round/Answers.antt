@@ -1,12 +1,13 @@
 -- The modes stand twice over, and the next join is found among them. Assumes nothing.
 use Rattle.std.proofs.Common.{ℕ, true, ◌≡◌, ◌+◌, ◌≤◌, List, length, refl, sym, ap, ap₂, subst, ◌∙◌, arith, rules}
 use Rattle.pooling.specs.Limits.{most_ring_bins}
-use Rattle.verdict.specs.Test.{Closeness}
+use Rattle.segmentation.specs.declared.Line.{Line}
+use Rattle.segmentation.specs.declared.Segments.{Segments}
 use Rattle.segmentation.specs.Segments.{Segment}
-use Rattle.segmentation.specs.Joining.{line_reader, next_among}
+use Rattle.segmentation.specs.Joining.{Reader, next_among}
 use Rattle.segmentation.specs.Around.{twice, next_round}
-use Rattle.segmentation.specs.Held.{segments_held}
-use Rattle.segmentation.specs.Runs.{AllInside, NoneAmong, OnRing}
+use Rattle.segmentation.specs.Held.{segments_held, held}
+use Rattle.segmentation.specs.Runs.{reader_of, AllInside, NoneAmong, OnRing}
 use Rattle.segmentation.proofs.Holding.{held-length}
 use Rattle.segmentation.proofs.RunsInside.{ring-inside}
 use Rattle.segmentation.proofs.RoundKept.{none-twice}
@@ -14,40 +15,42 @@ use Rattle.rings.specs.Twice.{RingHeld, Repeated}
 use Rattle.rings.proofs.HeldTwice.{held-twice, held_kept, turn_end, separators-most, peaks-most, ring-count}
 use Rattle.rings.proofs.rounds.next_round.Goals as goal
 
--- two lists that hold n modes of a ring, and hold them twice over then
-module _ (round s p : List ℕ) (n bins : ℕ) (ring : RingHeld round s p n bins) where
-  abbrev modes : List Segment
-  modes = segments_held s p 0 n
+-- the modes of a ring, held twice over in t and q then
+module _ {N : ℕ} (turns : Line) (modes : Segments N) (bins : ℕ) (ring : RingHeld turns modes bins) where
+  abbrev read : Reader
+  read = reader_of turns
 
-  count : length modes ≡ n
-  count = held-length s p 0 n
+  abbrev n : ℕ
+  n = modes.count
+
+  count : length (held modes) ≡ n
+  count = held-length modes.separators modes.peaks 0 n
 
   few : n ≤ bins
-  few = ring-count s p n bins ring.on_ring.cut
+  few = ring-count modes.separators modes.peaks n bins ring.on_ring.cut
 
-  module _ (t q : List ℕ) (rs : Repeated s t 1 n bins) (rp : Repeated p q 0 n bins) where
-    again : segments_held t q 0 (n + n) ≡ twice bins modes
-    again = held-twice s p t q n bins rs rp (turn_end s p n bins ring.on_ring.cut)
+  module _ (t q : List ℕ) (rs : Repeated modes.separators t 1 n bins) (rp : Repeated modes.peaks q 0 n bins) where
+    again : segments_held t q 0 (n + n) ≡ twice bins (held modes)
+    again = held-twice modes.separators modes.peaks t q n bins rs rp (turn_end modes.separators modes.peaks n bins ring.on_ring.cut)
 
     -- every run round the ring lies in the two turns
-    inside : AllInside round t q true n
+    inside : AllInside turns.bins.now t q true n
     inside =
         let few-bins : length ring.turn ≤ most_ring_bins = omega (arith, ring.as_long, ring.limits) in
-        let on = subst (λ (b : ℕ). OnRing b ring.turn modes) (sym ring.as_long) ring.on_ring in
-        let as-held = again ∙ ap (λ (b : ℕ). twice b modes) (sym ring.as_long) in
-        subst (λ (xs : List ℕ). AllInside xs t q true n) (sym ring.turns) (ring-inside ring.turn few-bins ring.limits.1 modes on t q n (sym count) as-held)
+        let on = subst (λ (b : ℕ). OnRing b ring.turn (held modes)) (sym ring.as_long) ring.on_ring in
+        let as-held = again ∙ ap (λ (b : ℕ). twice b (held modes)) (sym ring.as_long) in
+        subst (λ (xs : List ℕ). AllInside xs t q true n) (sym ring.turns) (ring-inside ring.turn few-bins ring.limits.1 (held modes) on t q n (sym count) as-held)
 
     -- and those of the first modes are as they were
-    none_left : (e : Closeness) (known : ℕ) → known ≤ n → NoneAmong e (line_reader round) modes known
-        → NoneAmong e (line_reader round) (segments_held t q 0 (n + n)) known
-    none_left e known within none =
-        subst (λ (ss : List Segment). NoneAmong e (line_reader round) ss known) (sym again)
-        (none-twice e (line_reader round) bins modes known (omega (arith, count)) none)
+    none_left : (known : ℕ) → known ≤ n → NoneAmong turns.closeness read (held modes) known → NoneAmong turns.closeness read (segments_held t q 0 (n + n)) known
+    none_left known within none =
+        subst (λ (ss : List Segment). NoneAmong turns.closeness read ss known) (sym again)
+        (none-twice turns.closeness read bins (held modes) known (omega (arith, count)) none)
 
     -- what is found among them comes next round the ring
-    next-is : (e : Closeness) → next_among e (line_reader round) (segments_held t q 0 (n + n)) true n ≡ next_round e (line_reader round) bins modes
+    next-is : next_among turns.closeness read (segments_held t q 0 (n + n)) true n ≡ next_round turns.closeness read bins (held modes)
     unfolding next_round
-    next-is e = ap₂ (λ (ss : List Segment) (k : ℕ). next_among e (line_reader round) ss true k) again (sym count)
+    next-is = ap₂ (λ (ss : List Segment) (k : ℕ). next_among turns.closeness read ss true k) again (sym count)
 
 pub repeat-requires : goal.repeat-requires
 repeat-requires c =
@@ -70,15 +73,15 @@ next_join-requires c =
     let ring = c.requires.ring_held in
     let most = ring.limits.0 in
     let none = c.requires.none_among in
-    let below = few a.turns.now.bins.now v.separators v.peaks v.count a.bins ring in (
+    let below = few a.turns.now v a.bins ring in (
       search rules,
       (
         record { places = (omega (arith, ring.prepared.places, c.repeat.auto), omega (arith, ring.prepared.places, c.repeat-2.auto)) },
         (
-          inside a.turns.now.bins.now v.separators v.peaks v.count a.bins ring c.repeat.new.a c.repeat-2.new.a c.repeat.ensures c.repeat-2.ensures,
+          inside a.turns.now v a.bins ring c.repeat.new.a c.repeat-2.new.a c.repeat.ensures c.repeat-2.ensures,
           (
-            none_left a.turns.now.bins.now v.separators v.peaks v.count a.bins ring c.repeat.new.a c.repeat-2.new.a c.repeat.ensures c.repeat-2.ensures a.turns.now.closeness a.known none.1 none.0,
-            (omega (arith, ring.on_ring.cut.non_empty, count a.turns.now.bins.now v.separators v.peaks v.count a.bins ring), omega arith, none.1),
+            none_left a.turns.now v a.bins ring c.repeat.new.a c.repeat-2.new.a c.repeat.ensures c.repeat-2.ensures a.known none.1 none.0,
+            (omega (arith, ring.on_ring.cut.non_empty, count a.turns.now v a.bins ring), omega arith, none.1),
           ),
         ),
       ),
@@ -88,7 +91,7 @@ pub returns-clause-next : goal.returns-clause-next
 returns-clause-next c =
     let a = c.args in
     let v = a.modes.now in
-    c.next_join.ensures ∙ next-is a.turns.now.bins.now v.separators v.peaks v.count a.bins c.requires.ring_held c.repeat.new.a c.repeat-2.new.a c.repeat.ensures c.repeat-2.ensures a.turns.now.closeness
+    c.next_join.ensures ∙ next-is a.turns.now v a.bins c.requires.ring_held c.repeat.new.a c.repeat-2.new.a c.repeat.ensures c.repeat-2.ensures
 
 pub returns-clause-held : goal.returns-clause-held
 returns-clause-held c =
@@ -99,4 +102,4 @@ pub returns-clause-again : goal.returns-clause-again
 returns-clause-again c =
     let a = c.args in
     let v = a.modes.now in
-    again a.turns.now.bins.now v.separators v.peaks v.count a.bins c.requires.ring_held c.repeat.new.a c.repeat-2.new.a c.repeat.ensures c.repeat-2.ensures
+    again a.turns.now v a.bins c.requires.ring_held c.repeat.new.a c.repeat-2.new.a c.repeat.ensures c.repeat-2.ensures
