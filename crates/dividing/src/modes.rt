@@ -1,7 +1,7 @@
 // The modes that the bins of a histogram lie in.
 ghost use Rattle.std.specs.Prelude.{◌≡◌, ◌+◌, ◌≤◌, ◌<◌, length};
 ghost use Rattle.lists.specs.Lists.{total};
-ghost use Rattle.palette.specs.Levels.{hue, saturation, intensity, bin_count};
+ghost use Rattle.palette.specs.Levels.{hue, intensity, bin_count};
 ghost use Rattle.palette.specs.Sound.{most_pixels};
 ghost use Rattle.dividing.specs.Sorted.{mode_base};
 ghost use Rattle.dividing.specs.Numbering.{Rises, ModeBefore, ModeAt, PlacesNumbered, BinsNumbered, LineNumbered};

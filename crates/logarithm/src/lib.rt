@@ -5,9 +5,9 @@
 mod numbers;
 mod sheet;
 
-ghost use Rattle.std.specs.Prelude.{◌≡◌, ◌+◌, ◌≤◌, ◌<◌, ◌*◌, ◌^◌, leb, true};
-ghost use Rattle.logarithm.specs.Log.{Loggable, lg, units_per_bit};
-ghost use Rattle.logarithm.specs.Sheet.{sheet_size, log_sheet, twos_of, odd_part};
+ghost use Rattle.std.specs.Prelude.{◌≡◌, ◌+◌, ◌<◌, ◌*◌, ◌^◌, leb, true};
+ghost use Rattle.logarithm.specs.Log.{Loggable, units_per_bit};
+ghost use Rattle.logarithm.specs.Sheet.{sheet_size, twos_of, odd_part};
 ghost use Rattle.logarithm.specs.Worker.{Ready, start, round};
 
 pub use numbers::Numbers;

@@ -6,13 +6,11 @@ use mathlib.Core.List.{List, [], ◌∷◌, ◌++◌, map, flat_map, append_asso
 use mathlib.Core.Option.{Option, none, some}
 use native.Mathlib.Omega.{arith}
 use native.Mathlib.Nat.{sub-zero}
-use native.Mathlib.Numerals.{add-one, add-two}
 use borrow.Author.Tests.{eqb-true}
 use lib.Dec.{eqb, eqb-suc-suc, eqb-suc-zero, eqb-zero-suc}
-use lib.ListN.{length, take, drop, get_or, set, length-drop, drop_of_length-le}
+use lib.ListN.{length, take, drop, get_or, length-drop, drop_of_length-le}
 use lib.Seq.{drop-drop}
 use Rattle.lists.specs.Lists.{maybe, whole}
-use Rattle.lists.proofs.Stores.{take-sets}
 use Rattle.lists.proofs.Missing.{cond-some, maybe-some}
 use Rattle.swatch.specs.Input.{line_feed, in_front, lines_of, fields_of, size_of, pixel_line, pixel_bytes}
 use Rattle.swatch.proofs.Lines.{first-pixel-line, pixel-line-cut, header-cut, header-long, fields-long}

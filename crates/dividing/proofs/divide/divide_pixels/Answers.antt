@@ -1,4 +1,4 @@
-use Rattle.std.proofs.Common.{◌≡◌, ◌+◌, ◌-◌, ◌++◌, ◌∙◌, ℕ, length, take, drop, sym, arith, rules}
+use Rattle.std.proofs.Common.{◌≡◌, ◌-◌, ◌++◌, ◌∙◌, length, take, drop, sym, arith, rules}
 use Rattle.palette.specs.Cards.{pixels_of, most_entries}
 use Rattle.dividing.proofs.Walking.{slice_from, put_from}
 use Rattle.dividing.proofs.Halves.{kinds-laid, greys-long, greys-room, colours-lent, colours-long, colours-room, both-divided, some-few}

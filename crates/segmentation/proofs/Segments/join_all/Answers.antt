@@ -6,7 +6,6 @@ use Rattle.segmentation.proofs.Applied.{held-step}
 use Rattle.segmentation.proofs.Settled.{joins-none, line-shortens}
 use Rattle.segmentation.proofs.Stepping.{next-within, fewer, on-line-after}
 use Rattle.segmentation.proofs.Segments.join_all.Goals as goal
-use Rattle.segmentation.proofs.Segments.join_all.Goals.{After-next_on_line, After-apply}
 
 pub apply-requires : goal.apply-requires
 apply-requires g c =
