@@ -8,7 +8,7 @@ ghost use Rattle.segmentation.specs.Runs.{reader_of, held_for, NoneAmong};
 ghost use Rattle.rings.specs.Twice.{RingHeld, EachTo, Repeated};
 
 use crate::HELD_TWICE;
-use segmentation::{Join, Line, Search, Segments};
+use segmentation::{Join, Line, Search, Segments, shift};
 
 // Writes the n members from place `from` on again behind them, `by` more each.
 fn repeat(a: &mut [u32], from: usize, n: usize, by: usize)
@@ -29,8 +29,8 @@ fn apply_round(modes: &mut Segments<HELD_TWICE>, j: Join)
 {
     let n = modes.count;
     let past = (j.first + j.len).saturating_sub(n);
-    modes.separators.copy_within(past..past + n + 1, 0);
-    modes.peaks.copy_within(past..past + n, 0);
+    shift(&mut modes.separators, 0, past, past + n + 1);
+    shift(&mut modes.peaks, 0, past, past + n);
     modes.apply(Join {
         first: j.first - past,
         ..j

@@ -32,10 +32,9 @@ pub fn write_turns(h: &[u32], first: usize, round: &mut [u32])
     ensures { round.new ≡ over (two_turns h.now) round.old }
 {
     let bins = h.len();
-    let turn = &mut round[..bins];
-    turn.copy_from_slice(h);
-    turn.rotate_left(first);
-    round.copy_within(..bins, bins);
+    for i in 0..bins + bins {
+        round[i] = h[(first + i) % bins];
+    }
 }
 
 // Finds the modes of the ring h, of which `round` has two turns from the opening on.

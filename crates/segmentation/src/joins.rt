@@ -1,5 +1,6 @@
 // Joining a run of segments in place, and joining until no run is joinable.
-ghost use Rattle.std.specs.Prelude.{◌≡◌, ◌+◌, ◌-◌, ◌≤◌, ◌<◌, length};
+ghost use Rattle.std.specs.Prelude.{◌≡◌, ◌+◌, ◌-◌, ◌≤◌, ◌<◌, length, drop};
+ghost use Rattle.std.proofs.Math.Seq.{paste};
 ghost use Rattle.pooling.specs.Limits.{Small};
 ghost use Rattle.segmentation.specs.Joining.{join, next_join, join_all, line_modes};
 ghost use Rattle.segmentation.specs.Held.{held, join_found};
@@ -8,6 +9,17 @@ ghost use Rattle.segmentation.specs.Runs.{reader_of, joins_of, OnLine};
 use crate::{Join, Line, Search, Segments};
 use logarithm::Sheet;
 use verdict::Closeness;
+
+// Moves the members from place `from` up to, but not including, `end` down to the places from `to` on.
+// Not std's copy_within: it calls memmove, and the library is said to need memcpy and memset alone.
+pub fn shift(a: &mut [u32], to: usize, from: usize, end: usize)
+    requires { (to ≤ from) × (from ≤ end) × (end ≤ length a.old) }
+    ensures { a.new ≡ paste a.old to (drop from a.old) (end - from) }
+{
+    for k in 0..end - from {
+        a[to + k] = a[from + k];
+    }
+}
 
 impl<const N: usize> Segments<N> {
     // Joins a run of the segments in place. The separators inside the run are dropped, and what follows moves down. Of its peaks a rise keeps the last, a fall
@@ -21,8 +33,8 @@ impl<const N: usize> Segments<N> {
         let at = j.first;
         let fewer = j.len - 1;
         let kept = if j.rise { at } else { at + 1 };
-        self.separators.copy_within(at + 1 + fewer..n + 1, at + 1);
-        self.peaks.copy_within(kept + fewer..n, kept);
+        shift(&mut self.separators, at + 1, at + 1 + fewer, n + 1);
+        shift(&mut self.peaks, kept, kept + fewer, n);
         self.count = n - fewer;
     }
 

@@ -11,6 +11,7 @@ mod joins;
 mod lines;
 mod runs;
 
+pub use joins::shift;
 pub use lines::line_separators;
 
 // A run of len segments, from segment number `first` on, that may be joined: whether by its rise or by its fall, and at what cost.

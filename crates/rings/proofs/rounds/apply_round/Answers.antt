@@ -8,6 +8,6 @@ returns c =
     let v = c.args.modes.now in
     let past = c.saturating_sub-past in (
       join-turn v.separators v.peaks _ _ v.count past.result c.args.j _ (omega (arith, past.ensures, c.requires)) (omega (arith, v.room, c.requires)) (omega (arith, v.room, c.requires))
-          c.copy_within.ensures.after c.copy_within-2.ensures.after past.ensures refl refl refl _ c.apply.ensures.joined,
+          c.shift.ensures c.shift-2.ensures past.ensures refl refl refl _ c.apply.ensures.joined,
       c.apply.ensures.fewer,
     )

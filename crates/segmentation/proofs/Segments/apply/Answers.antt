@@ -13,4 +13,4 @@ returns-clause-joined g c =
       | then-j w ↦ w.kept-is ∙ sym (ap (λ (b : Bool). cond b j.first (j.first + 1)) w.if-j.true)
       | else-j w ↦ w.kept-is ∙ sym (ap (λ (b : Bool). cond b j.first (j.first + 1)) w.if-j.false)
     ] in
-    join-held s.separators s.peaks s.count j c.if-j.kept c.requires.0 c.requires.1 (search rules) (search rules) kept-place _ _ c.copy_within.ensures.after c.copy_within-2.ensures.after
+    join-held s.separators s.peaks s.count j c.if-j.kept c.requires.0 c.requires.1 (search rules) (search rules) kept-place _ _ c.shift.ensures c.shift-2.ensures
