@@ -109,6 +109,8 @@ fn pixel_lines(text: &[u8], pixels: usize, bytes: &mut [u8]) -> Option<()>
 
 // Reads a swatch from any bytes, of any length: how many pixels it has. Their bytes are left in the first places of `bytes`; if the
 // swatch is turned down, those places have no meaning.
+// Put into the text call it would make that too large for the compiler to see that one of two copies of what is printed is needless.
+#[inline(never)]
 pub fn read(text: &[u8], bytes: &mut [u8]) -> Result<u32, Unread>
     requires { 3 * most_swatch_pixels ≤ length bytes.old }
     ensures answer { result ≡ reading_of text.now }
