@@ -1,5 +1,5 @@
 -- `replay` meets its contract: the grounds of modes, then the log that is followed. Assumes nothing.
-use Rattle.std.proofs.Common.{sym, ap, ◌∙◌, ◌≡◌, length}
+use Rattle.std.proofs.Common.{sym, ◌∙◌, ◌≡◌, length}
 use Rattle.std.proofs.lemmas.Result.{err_from_is_err_and}
 use mir.Syntax.{w32}
 use mir.ValLaws.{to_z-of_z}
