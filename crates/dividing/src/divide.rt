@@ -9,6 +9,7 @@ use crate::Node;
 use crate::keeping::Found;
 use crate::kinds::sort_kinds;
 use crate::levels::{Level, split};
+use crate::sorting::copy;
 use verdict::Closeness;
 
 // The kinds, by the first digit of a code.
@@ -78,5 +79,5 @@ pub fn divide_pixels(
         keys,
         found,
     );
-    order[..greys].copy_from_slice(&other[colours..]);
+    copy(&other[colours..], &mut order[..greys]);
 }

@@ -47,9 +47,7 @@ fn print_in(text: &[u8], pixels: &mut [u8], out: &mut [u8]) -> Result<u32, Groun
     print_pixels(&pixels[..3 * n as usize], out)
 }
 
-// Reads the text of a swatch and prints its card into the first places of `out`: how many bytes it has. Not inlined: what it is made in
-// would make the stack of the call larger by 12 KB.
-#[inline(never)]
+// Reads the text of a swatch and prints its card into the first places of `out`: how many bytes it has.
 pub fn print(text: &[u8], out: &mut [u8]) -> Result<u32, Ground>
     requires { printed_most ≤ length out.old }
     ensures { TextPrinted text.now out.old out.new result }

@@ -66,9 +66,9 @@ returns c =
     let v = f.new.other in
     let s = c.split_some-2 in
     let w = s.new.order in
-    let copied : c.copy_from_slice.new.self ≡ slice_from (length o - g) (w ++ drop (length o - g) (put_from (length o - g) t v)) = search rules in
+    let copied : c.copy.new.list ≡ slice_from (length o - g) (w ++ drop (length o - g) (put_from (length o - g) t v)) = search rules in
     let room : length c.args.found.now.ranges ≡ 1000 = search rules in (
-      both-divided bytes o t g n laid u v f.auto.order f.auto.other w s.new.other s.auto.order s.auto.other c.copy_from_slice.new.self copied
+      both-divided bytes o t g n laid u v f.auto.order f.auto.other w s.new.other s.auto.order s.auto.other c.copy.new.list copied
           c.args.closeness (λ j. let known = c.type_inv.pixels j in omega arith)
           _ _ _ _ _ _ f.new.found.count s.new.found.count f.ensures s.ensures,
       room,
