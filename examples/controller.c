@@ -23,7 +23,7 @@ enum { LINE = 13, HEADER_FIELD = 6, PIXEL_FIELD = 4 };
  * says so from these bytes alone. */
 #define TEXT_BYTES (KISTROVU_MOST_TEXT + 1)
 
-/* The buffers have a fixed size and are not on the stack, of which a call takes up to 407 KB. */
+/* The buffers have a fixed size and are not on the stack, of which a call takes up to 385 KB. */
 static uint8_t text[TEXT_BYTES];
 static uint8_t pixels[3 * KISTROVU_MOST_SWATCH_PIXELS];
 static uint16_t labels[KISTROVU_MOST_SWATCH_PIXELS];

@@ -38,7 +38,7 @@
  *         return 1;
  *
  * No call uses the heap, keeps state or touches anything but its arguments, so calls may run on many threads at once.
- * Stack, as measured: kistrovu_card takes up to 407 KB, kistrovu_print_card up to 259 KB; every other call takes less
+ * Stack, as measured: kistrovu_card takes up to 385 KB, kistrovu_print_card up to 237 KB; every other call takes less
  * than 20 KB. That is without the answer, which is handed back by value, in memory of the caller; its size is given below.
  * Give a thread that makes cards 1 MB.
  *
