@@ -1,5 +1,5 @@
 -- A bin more is that of the two turns.
-use Rattle.std.proofs.Common.{◌≡◌, ◌∙◌, List, ℕ, ap, sym, arith}
+use Rattle.std.proofs.Common.{◌∙◌, List, ℕ, ap, sym, arith}
 use Rattle.std.proofs.Math.Seq.{take_all}
 use Rattle.lists.specs.Lists.{over}
 use Rattle.lists.proofs.Buffers.{over_none}

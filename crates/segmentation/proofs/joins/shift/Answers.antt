@@ -1,5 +1,5 @@
 -- A member more has moved.
-use Rattle.std.proofs.Common.{◌≡◌, ◌∙◌, arith}
+use Rattle.std.proofs.Common.{arith}
 use Rattle.lists.proofs.Shifts.{shift-more}
 use Rattle.segmentation.proofs.joins.shift.Goals as goal
 
