@@ -27,8 +27,9 @@ pub const EXPORTS: &str = "crates/kistrovu_c/src/lib.rt";
 
 /// The files that export something, or hold what an exported struct is made of, or a limit, in the order in which they
 /// rest on each other.
-pub const FILES: [&str; 8] = [
+pub const FILES: [&str; 9] = [
     "crates/pixel/src/lib.rt",
+    "crates/verdict/src/closeness.rt",
     "crates/verdict/src/lib.rt",
     "crates/palette/src/lib.rt",
     "crates/swatch/src/lib.rt",

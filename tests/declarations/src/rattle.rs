@@ -70,7 +70,7 @@ impl Source {
         while !cursor.is_at_end() {
             if cursor.passes("#[repr") {
                 cursor.expect("(C)]")?;
-                if cursor.passes("#[derive") {
+                if cursor.passes("#[derive") && !cursor.passes("(Clone, Copy, Default)]") {
                     cursor.expect("(Clone, Copy)]")?;
                 }
                 cursor.expect("pub struct")?;
