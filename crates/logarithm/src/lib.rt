@@ -11,8 +11,7 @@ ghost use Rattle.logarithm.specs.Sheet.{sheet_size, twos_of, odd_part};
 ghost use Rattle.logarithm.specs.Worker.{Ready, start, round};
 
 pub use numbers::Numbers;
-use sheet::SHEET_SIZE;
-pub use sheet::Sheet;
+pub use sheet::{SHEET_SIZE, Sheet, copied_sheet};
 
 // The state between rounds: a mantissa of 2^31 or more and below 2^32, and the bits of the logarithm found so far.
 #[derive(Clone, Copy)]

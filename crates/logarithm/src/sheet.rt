@@ -16,7 +16,9 @@ pub struct Sheet {
 
 impl Sheet {
     pub fn copied() -> Self {
-        Sheet { logs: SHEET }
+        Sheet {
+            logs: copied_sheet(),
+        }
     }
 
     // The logarithm of a number whose odd part is on the sheet: one more bit for each factor of 2.
@@ -171,3 +173,10 @@ pub const SHEET: [u32; SHEET_SIZE] = [
     669755829, 669851641, 669947358, 670042980, 670138508, 670233942, 670329282, 670424528,
     670519680, 670614739, 670709705, 670804578, 670899358, 670994045, 671088640,
 ];
+
+// The numbers of the sheet, for those who take no logarithm but want the table.
+pub fn copied_sheet() -> [u32; SHEET_SIZE]
+    ensures { result ≡ log_sheet }
+{
+    SHEET
+}

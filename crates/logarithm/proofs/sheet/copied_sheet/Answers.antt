@@ -3,8 +3,8 @@ use Rattle.std.proofs.Common.{refl}
 use Rattle.lists.specs.Lists.{numbers}
 use Rattle.logarithm.specs.Log.{lg, floor_log, rounds, round_count, units_per_bit}
 use Rattle.logarithm.specs.Sheet.{sheet_size, log_sheet}
-use Rattle.logarithm.proofs.sheet.Sheet.copied.Goals as goal
+use Rattle.logarithm.proofs.sheet.copied_sheet.Goals as goal
 
-pub invariant_of-result : goal.invariant_of-result
+pub returns : goal.returns
 unfolding log_sheet sheet_size numbers lg floor_log rounds round_count units_per_bit
-invariant_of-result c = record { stored = refl }
+returns c = refl
