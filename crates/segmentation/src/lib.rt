@@ -11,6 +11,7 @@ mod joins;
 mod lines;
 mod runs;
 
+pub use first::first_segments;
 pub use joins::{apply, join_all, next_on_line, shift};
 pub use lines::line_separators;
 pub use runs::next_join;
