@@ -38,8 +38,7 @@ pub fn apply(separators: &mut [u32], peaks: &mut [u32], n: usize, j: Join) -> us
 
 // The join that comes next among the n segments of a line, if there is one. With `apply`, which makes it, this is one step of joining.
 pub fn next_on_line(line: &Line, separators: &[u32], peaks: &[u32], n: usize) -> Option<Join>
-    requires prepared { Prepared separators.now peaks.now n }
-    requires on_line { HeldOnLine line.now separators.now peaks.now n }
+    requires { Prepared separators.now peaks.now n × HeldOnLine line.now separators.now peaks.now n }
     ensures { join_found result ≡ next_join line.now.closeness (reader_of line.now) (segments_held separators.now peaks.now 0 n) }
 {
     let all = Search {
@@ -51,8 +50,7 @@ pub fn next_on_line(line: &Line, separators: &[u32], peaks: &[u32], n: usize) ->
 
 // Joins the n segments of a line, step by step, until no run is joinable. Returns how many there are then.
 pub fn join_all(line: &Line, separators: &mut [u32], peaks: &mut [u32], n: usize) -> usize
-    requires prepared { Prepared separators.old peaks.old n }
-    requires on_line { HeldOnLine line.now separators.old peaks.old n }
+    requires { Prepared separators.old peaks.old n × HeldOnLine line.now separators.old peaks.old n }
     ensures all { segments_held separators.new peaks.new 0 result ≡ join_all n (joins_of line.now) (segments_held separators.old peaks.old 0 n) }
     ensures fewer { result ≤ n }
 {
@@ -63,7 +61,7 @@ pub fn join_all(line: &Line, separators: &mut [u32], peaks: &mut [u32], n: usize
     left
 }
 
-// The same of segments that have room for themselves.
+// The same for segments that bring their own lists.
 impl<const N: usize> Segments<N> {
     // Joins a run of the segments in place.
     pub fn apply(&mut self, j: Join)

@@ -12,7 +12,7 @@ apply-left-requires c =
     let l = c.loop-join in
     let next = sym c.next_on_line.ensures ∙ ap join_found c.in-Some.is in
     let w = next-held c.args.line.now l.separators l.peaks l.left l.invariant.on_line c.in-Some.join next in
-    let room = c.requires.prepared.places in
+    let room = c.requires.0.places in
     (w.0, w.1, omega (arith, room, l.invariant.fewer, l.auto), omega (arith, room, l.invariant.fewer, l.auto))
 
 pub loop-join-smaller : goal.loop-join-smaller

@@ -11,10 +11,10 @@ use Rattle.segmentation.proofs.joins.next_on_line.Goals as goal
 pub next_join-requires : goal.next_join-requires
 next_join-requires c =
     let a = c.args in
-    let on = c.requires.on_line in
+    let on = c.requires.1 in
     let k = held-line-count a.line.now a.separators.now a.peaks.now a.n on in
     record {
-      prepared = c.requires.prepared;
+      prepared = c.requires.0;
       all_inside = line-inside a.line.now.bins.now a.separators.now a.peaks.now a.n on.small on.cut;
       none_among = λ n two i l. absurd (omega arith);
       le_count = (k.0, omega (arith, k, on.small.bins), omega arith);
