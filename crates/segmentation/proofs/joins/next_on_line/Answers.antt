@@ -13,8 +13,9 @@ next_join-requires c =
     let a = c.args in
     let on = c.requires.1 in
     let k = held-line-count a.line.now a.separators.now a.peaks.now a.n on in
+    let room = c.requires.0.places in
     record {
-      prepared = c.requires.0;
+      prepared = record { places = (omega (arith, room), omega (arith, room)) };
       all_inside = line-inside a.line.now.bins.now a.separators.now a.peaks.now a.n on.small on.cut;
       none_among = λ n two i l. absurd (omega arith);
       le_count = (k.0, omega (arith, k, on.small.bins), omega arith);
