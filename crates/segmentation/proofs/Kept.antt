@@ -178,6 +178,10 @@ module _ (ss : List Segment) (c : Chain ss) where
         fall_to = omega (arith, first, chain-ends i (i + n - 1) (omega arith) (omega arith));
       }
 
+  -- of two segments the later one starts at a later bin
+  pub chain-rises : (a b : ℕ) → a < b → b < length ss → (segment_at ss a).start < (segment_at ss b).start
+  chain-rises a b l k = omega (arith, c.ascending a (omega arith), c.adjacent a (omega arith), chain-starts (suc a) b l k)
+
 -- ---- what a join keeps
 -- s is the run of the segments ss from number first to number last
 record RunOf (ss : List Segment) (s : Segment) (first last : ℕ) : Type 0 where

@@ -9,7 +9,7 @@ use Rattle.segmentation.specs.declared.Line.{Line}
 use Rattle.segmentation.specs.declared.Segments.{Segments}
 use Rattle.segmentation.specs.Segments.{Segment, segment_at, bin_at}
 use Rattle.segmentation.specs.Joining.{Reader, line_reader, Join, join_of, last_start, Joins, line_joins}
-use Rattle.segmentation.specs.Held.{segments_held, held}
+use Rattle.segmentation.specs.Held.{segments_held}
 use Rattle.segmentation.specs.Finished.{Cut, RingCut}
 
 -- two lists with room for so many segments
@@ -24,10 +24,14 @@ reader_of line = line_reader line.bins.now
 abbrev pub joins_of : Line → Joins
 joins_of line = line_joins line.closeness (reader_of line)
 
--- segments that cut it, with what a search among them needs: they have room in their lists by their type
-pub record OnLine {N : ℕ} (line : Line) (s : Segments N) : Type 0 where
+-- n segments that cut it, with what a search among them needs, beside room in the two lists that hold them
+pub record HeldOnLine (line : Line) (separators peaks : List ℕ) (n : ℕ) : Type 0 where
   pub small : Small line.bins.now
-  pub cut : Cut (length line.bins.now) (held s)
+  pub cut : Cut (length line.bins.now) (segments_held separators peaks 0 n)
+
+-- those of a value of the code's, which have room by their type
+abbrev pub OnLine : {N : ℕ} → Line → Segments N → Type 0
+OnLine line s = HeldOnLine line s.separators s.peaks s.count
 
 -- the stretch from bin i to bin j lies within h, and is small enough to be tested
 pub record Within (h : List ℕ) (i j : ℕ) : Type 0 where
@@ -48,8 +52,12 @@ abbrev pub held_count : (round : Bool) (n : ℕ) → ℕ
 held_count round n = cond round (n + n) n
 
 -- those segments
+abbrev pub held_among : (round : Bool) (separators peaks : List ℕ) (n : ℕ) → List Segment
+held_among round separators peaks n = segments_held separators peaks 0 (held_count round n)
+
+-- those of a value of the code's
 abbrev pub held_for : (round : Bool) → {N : ℕ} → Segments N → List Segment
-held_for round s = segments_held s.separators s.peaks 0 (held_count round s.count)
+held_for round s = held_among round s.separators s.peaks s.count
 
 -- of all runs of two or more of n segments
 abbrev pub AllInside : (h separators peaks : List ℕ) (round : Bool) (n : ℕ) → Type 0

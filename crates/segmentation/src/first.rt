@@ -2,7 +2,7 @@
 ghost use Rattle.std.specs.Prelude.{◌≡◌, ◌++◌, ◌+◌, ◌-◌, ◌^◌, ◌≤◌, ◌<◌, length, take, IfSome};
 ghost use Rattle.pooling.specs.Limits.{most_bins};
 ghost use Rattle.segmentation.specs.Segments.{first_separators, first_highest, first_segments};
-ghost use Rattle.segmentation.specs.Held.{held};
+ghost use Rattle.segmentation.specs.Held.{segments_held, held};
 ghost use Rattle.segmentation.specs.Walk.{fell_after, pending};
 
 use crate::Segments;
@@ -69,17 +69,27 @@ fn first_highest(h: &[u32], start: usize, end: usize) -> usize
     best
 }
 
+// Writes the first segments of a line. Returns how many there are.
+pub fn first_segments(h: &[u32], separators: &mut [u32], peaks: &mut [u32]) -> usize
+    requires { (2 ≤ length h.now) × (length h.now ≤ most_bins) × (length h.now ≤ length separators.old) × (length h.now ≤ length peaks.old) }
+    ensures first { segments_held separators.new peaks.new 0 result ≡ first_segments h.now }
+    ensures fewer { result < length h.now }
+{
+    let n = first_separators(h, separators);
+    for m in 0..n {
+        let start = separators[m] as usize;
+        let end = separators[m + 1] as usize;
+        peaks[m] = first_highest(h, start, end) as u32;
+    }
+    n
+}
+
 impl<const N: usize> Segments<N> {
     // Becomes the first segments of a line.
     pub fn first_segments(&mut self, h: &[u32])
         requires { (2 ≤ length h.now) × (length h.now ≤ most_bins) × (length h.now ≤ N) }
         ensures { held self.new ≡ first_segments h.now }
     {
-        self.count = first_separators(h, &mut self.separators);
-        for m in 0..self.count {
-            let start = self.separators[m] as usize;
-            let end = self.separators[m + 1] as usize;
-            self.peaks[m] = first_highest(h, start, end) as u32;
-        }
+        self.count = first_segments(h, &mut self.separators, &mut self.peaks);
     }
 }

@@ -11,8 +11,10 @@ mod joins;
 mod lines;
 mod runs;
 
-pub use joins::shift;
+pub use first::first_segments;
+pub use joins::{apply, join_all, next_on_line, shift};
 pub use lines::line_separators;
+pub use runs::next_join;
 
 // A run of len segments, from segment number `first` on, that may be joined: whether by its rise or by its fall, and at what cost.
 #[derive(Clone, Copy)]

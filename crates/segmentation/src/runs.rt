@@ -8,7 +8,7 @@ ghost use Rattle.verdict.specs.Test.{cost};
 ghost use Rattle.verdict.specs.Scratch.{Capped};
 ghost use Rattle.segmentation.specs.Joining.{join_of, last_start, cheapest, next_among};
 ghost use Rattle.segmentation.specs.Held.{segments_held, join_found};
-ghost use Rattle.segmentation.specs.Runs.{reader_of, Prepared, Within, RunInside, RunsInside, held_count, held_for, AllInside, NoneBefore, NoneAmong, RunBelow, join_by, where_below};
+ghost use Rattle.segmentation.specs.Runs.{reader_of, Prepared, Within, RunInside, RunsInside, held_count, held_among, held_for, AllInside, NoneBefore, NoneAmong, RunBelow, join_by, where_below};
 
 use crate::{Join, Line, Search, Segments};
 use verdict::capped_cost;
@@ -53,42 +53,47 @@ impl Line<'_> {
         let stretch = &self.bins[i..j + 1];
         capped_cost(self.sheet, stretch, rising, self.closeness, cap)
     }
-}
 
-impl<const N: usize> Segments<N> {
-    // The run of len segments from segment i on, where only a cost below `least` matters.
-    fn run(&self, line: &Line, i: usize, len: usize, least: i64) -> Join
-        requires prepared { Prepared self.now.separators self.now.peaks (i + len) }
-        requires run_inside { RunInside line.now.bins.now self.now.separators self.now.peaks i len }
+    // The run of len segments from segment i on, of those that two lists hold, where only a cost below `least` matters.
+    fn run(&self, separators: &[u32], peaks: &[u32], i: usize, len: usize, least: i64) -> Join
+        requires prepared { Prepared separators.now peaks.now (i + len) }
+        requires run_inside { RunInside self.now.bins.now separators.now peaks.now i len }
         requires le_len { (1 ≤ len) × (mag least < 2 ^ 62) }
-        ensures { RunBelow least (join_of line.now.closeness (reader_of line.now) (segments_held self.now.separators self.now.peaks 0 (i + len)) i len) result }
+        ensures { RunBelow least (join_of self.now.closeness (reader_of self.now) (segments_held separators.now peaks.now 0 (i + len)) i len) result }
     {
-        let first_peak = self.peaks[i] as usize;
-        let end = self.separators[i + len] as usize;
-        let start = self.separators[i] as usize;
-        let last_peak = self.peaks[i + len - 1] as usize;
-        let fall = line.stretch_cost(false, first_peak, end, least);
+        let first_peak = peaks[i] as usize;
+        let end = separators[i + len] as usize;
+        let start = separators[i] as usize;
+        let last_peak = peaks[i + len - 1] as usize;
+        let fall = self.stretch_cost(false, first_peak, end, least);
         let cap = fall.min(least);
-        let rise = line.stretch_cost(true, start, last_peak, cap);
+        let rise = self.stretch_cost(true, start, last_peak, cap);
         by_costs(i, len, rise, fall)
     }
 
-    // Of the runs of len segments, from left to right, the first one of the lowest cost, if that cost is below 0.
+    // Of the runs of len of the n segments, from left to right, the first one of the lowest cost, if that cost is below 0.
     // Those before the first start are known to cost 0 or more.
-    fn cheapest_below(&self, line: &Line, among: Search, len: usize) -> Option<Join>
-        requires prepared { Prepared self.now.separators self.now.peaks (held_count among.round self.now.count) }
-        requires runs_inside { RunsInside line.now.bins.now self.now.separators self.now.peaks (suc (last_start among.round self.now.count len)) len }
-        requires none_before { NoneBefore line.now.closeness (reader_of line.now) (held_for among.round self.now) (suc among.known - len) len }
-        requires le_len { (2 ≤ len) × (len ≤ self.now.count) × (self.now.count ≤ most_bins) × (among.known ≤ self.now.count) }
-        ensures { join_found result ≡ where_below (cheapest line.now.closeness (reader_of line.now) (held_for among.round self.now) (last_start among.round self.now.count len) len) }
+    fn cheapest_below(
+        &self,
+        separators: &[u32],
+        peaks: &[u32],
+        n: usize,
+        among: Search,
+        len: usize,
+    ) -> Option<Join>
+        requires prepared { Prepared separators.now peaks.now (held_count among.round n) }
+        requires runs_inside { RunsInside self.now.bins.now separators.now peaks.now (suc (last_start among.round n len)) len }
+        requires none_before { NoneBefore self.now.closeness (reader_of self.now) (held_among among.round separators.now peaks.now n) (suc among.known - len) len }
+        requires le_len { (2 ≤ len) × (len ≤ n) × (n ≤ most_bins) × (among.known ≤ n) }
+        ensures { join_found result ≡ where_below (cheapest self.now.closeness (reader_of self.now) (held_among among.round separators.now peaks.now n) (last_start among.round n len) len) }
     {
         let from = among.first_start(len);
-        let end = among.start_count(self.count, len);
+        let end = among.start_count(n, len);
         let mut best = None;
         // What the cost of the next join has to be below.
         let mut least = 0;
         for i in from..end {
-            let next = self.run(line, i, len, least);
+            let next = self.run(separators, peaks, i, len, least);
             if next.cost < least {
                 least = next.cost;
                 best = Some(next);
@@ -96,8 +101,33 @@ impl<const N: usize> Segments<N> {
         }
         best
     }
+}
 
-    // The next join that a search finds, of a line or round a ring, if there is one.
+// The next join that a search among n segments finds, of a line or round a ring, if there is one. Two lists hold the segments, a ring's twice over.
+pub fn next_join(
+    line: &Line,
+    separators: &[u32],
+    peaks: &[u32],
+    n: usize,
+    among: Search,
+) -> Option<Join>
+    requires prepared { Prepared separators.now peaks.now (held_count among.round n) }
+    requires all_inside { AllInside line.now.bins.now separators.now peaks.now among.round n }
+    requires none_among { NoneAmong line.now.closeness (reader_of line.now) (held_among among.round separators.now peaks.now n) among.known }
+    requires le_count { (1 ≤ n) × (n ≤ most_bins) × (among.known ≤ n) }
+    ensures { join_found result ≡ next_among line.now.closeness (reader_of line.now) (held_among among.round separators.now peaks.now n) among.round n }
+{
+    for len in 2..n + 1 {
+        let best = line.cheapest_below(separators, peaks, n, among, len);
+        if best.is_some() {
+            return best;
+        }
+    }
+    None
+}
+
+impl<const N: usize> Segments<N> {
+    // The next join that a search among the segments finds, of a line or round a ring, if there is one.
     pub fn next_join(&self, line: &Line, among: Search) -> Option<Join>
         requires prepared { Prepared self.now.separators self.now.peaks (held_count among.round self.now.count) }
         requires all_inside { AllInside line.now.bins.now self.now.separators self.now.peaks among.round self.now.count }
@@ -105,12 +135,6 @@ impl<const N: usize> Segments<N> {
         requires le_count { (1 ≤ self.now.count) × (self.now.count ≤ most_bins) × (among.known ≤ self.now.count) }
         ensures { join_found result ≡ next_among line.now.closeness (reader_of line.now) (held_for among.round self.now) among.round self.now.count }
     {
-        for len in 2..self.count + 1 {
-            let best = self.cheapest_below(line, among, len);
-            if best.is_some() {
-                return best;
-            }
-        }
-        None
+        next_join(line, &self.separators, &self.peaks, self.count, among)
     }
 }
