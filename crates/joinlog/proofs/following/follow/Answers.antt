@@ -1,6 +1,6 @@
 -- Each join that is made is that of the record which was read, and where the log leaves the joins it is not theirs.
 use Rattle.std.proofs.Common.{◌≡◌, List, ◌++◌, length, sym, ap, ◌∙◌, arith, rules}
-use Rattle.std.specs.Prelude.{None, Some}
+use Rattle.std.specs.Prelude.{None, Some, eqb}
 use Rattle.std.proofs.lemmas.Bool.{false≢true}
 use Rattle.std.proofs.lemmas.Bool.Decides.{Decides-int_eq}
 use Rattle.std.proofs.lemmas.Slice.Eq.{strip_prefix_is}
@@ -34,9 +34,9 @@ returns-in_default-strip_prefix c =
     let after = w.after (held v) j in
     let js = joins_made (length after) w after in
     let made = held-made w (line-shortens a.line.now.closeness (reader_of a.line.now)) v.separators v.peaks v.count j (sym c.next_on_line.ensures ∙ ap join_found c.in-Some.is) in
-    let numbers : c.into-numbers.result ≡ numbers_of (record_of j) = c.into-numbers.ensures ∙ ap numbers_of c.record_of.ensures in
-    let never = strip_prefix_is Decides-int_eq rest c.into-numbers.result None c.in_default-strip_prefix.ensures.cases in (
-      sym (log-departs j js rest (λ behind e. never behind (rw numbers e)))
+    let numbers : c.into-numbers.result ≡ numbers_of (record_of j) = search rules in
+    let never = strip_prefix_is Decides-int_eq rest _ None c.in_default-strip_prefix.ensures.cases in (
+      sym (log-departs j js rest (rw numbers at never))
           ∙ ap (λ (is : List Join). same_numbers rest (log_of is)) (sym made)
           ∙ c.loop-join.invariant.same,
       λ t. absurd (false≢true t),
@@ -70,8 +70,8 @@ loop-join-preserved c =
     let js = joins_made (length after) w after in
     let next = sym c.next_on_line.ensures ∙ ap join_found c.in-Some.is in
     let done = c.apply.ensures.joined in
-    let numbers : c.into-numbers.result ≡ numbers_of (record_of j) = c.into-numbers.ensures ∙ ap numbers_of c.record_of.ensures in
-    let begins : rest ≡ numbers_of (record_of j) ++ behind.now = strip_prefix_is Decides-int_eq rest c.into-numbers.result (Some behind) c.in-Some-strip_prefix.ensures.cases ∙ ap (λ ns. ns ++ behind.now) numbers in
+    let numbers : c.into-numbers.result ≡ numbers_of (record_of j) = search rules in
+    let begins : rest ≡ numbers_of (record_of j) ++ behind.now = rw numbers at (strip_prefix_is Decides-int_eq rest _ (Some behind) c.in-Some-strip_prefix.ensures.cases) in
     record {
       on_line = on-line-after a.line.now v c.loop-join.invariant.on_line j next t done;
       same = ap (λ (is : List Join). same_numbers behind.now (log_of is)) (made_held w t.separators t.peaks t.count after done)
@@ -88,7 +88,8 @@ returns c =
     let w = joins_of a.line.now in
     let left = held v in
     let rest = c.loop-join.rest.now in
-    let none = sym c.next_on_line.ensures ∙ ap join_found c.in_default.is in (
-      c.is_empty.ensures ∙ sym (log-ends rest) ∙ ap (λ (is : List Join). same_numbers rest (log_of is)) (sym (made_none w v.count left none)) ∙ c.loop-join.invariant.same,
+    let none = sym c.next_on_line.ensures ∙ ap join_found c.in_default.is in
+    let empty : c.is_empty.result ≡ eqb (length rest) 0 = grind (arith, c.is_empty.ensures) in (
+      empty ∙ sym (log-ends rest) ∙ ap (λ (is : List Join). same_numbers rest (log_of is)) (sym (made_none w v.count left none)) ∙ c.loop-join.invariant.same,
       λ t. sym (joins-none w v.count left none) ∙ c.loop-join.invariant.modes,
     )

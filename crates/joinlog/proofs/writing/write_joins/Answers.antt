@@ -1,6 +1,7 @@
--- The join that was found is the first of those left to write, and there are fewer joins than bins.
+-- The join that was found is the first of those left to write, and there are fewer joins than bins. What was found is taken from what is known, however the head of the loop spells it.
 use Rattle.std.proofs.Common.{ℕ, ℤ, ◌≡◌, ◌+◌, ◌*◌, ◌<◌, List, ◌∷◌, ◌++◌, length, take, sym, ap, subst, ◌∙◌, arith, rules}
 use Rattle.std.proofs.Math.Option.{some}
+use Rattle.std.specs.Prelude.{None, Some}
 use Rattle.lists.specs.Lists.{over}
 use Rattle.segmentation.specs.declared.Join.{Join}
 use Rattle.segmentation.specs.declared.Line.{Line}
@@ -39,7 +40,8 @@ overflow_mul-joins c =
     let a = c.args in
     let v = c.loop-join.segments in
     let first = a.segments.now in
-    let few = room a.line.now v c.in-Some.join (sym c.next_on_line.ensures ∙ ap join_found c.in-Some.is) first c.requires.0 c.loop-join.invariant.written in
+    let is : c.next_on_line.result ≡ Some c.in-Some.join = grind arith in
+    let few = room a.line.now v c.in-Some.join (sym c.next_on_line.ensures ∙ ap join_found is) first c.requires.0 c.loop-join.invariant.written in
     record { fits = omega (arith, c.requires.0.small.bins) }
 
 pub record_of-requires : goal.record_of-requires
@@ -48,7 +50,8 @@ record_of-requires c =
     let v = c.loop-join.segments in
     let on = c.loop-join.invariant.on_line in
     let bins = on-line-count a.line.now v on in
-    let within = next-within a.line.now v on c.in-Some.join (sym c.next_on_line.ensures ∙ ap join_found c.in-Some.is) in
+    let is : c.next_on_line.result ≡ Some c.in-Some.join = grind arith in
+    let within = next-within a.line.now v on c.in-Some.join (sym c.next_on_line.ensures ∙ ap join_found is) in
     (omega (arith, on.small.bins), omega (arith, on.small.bins))
 
 pub put_record-requires : goal.put_record-requires
@@ -56,21 +59,24 @@ put_record-requires c =
     let a = c.args in
     let v = c.loop-join.segments in
     let first = a.segments.now in
-    let few = room a.line.now v c.in-Some.join (sym c.next_on_line.ensures ∙ ap join_found c.in-Some.is) first c.requires.0 c.loop-join.invariant.written in
+    let is : c.next_on_line.result ≡ Some c.in-Some.join = grind arith in
+    let few = room a.line.now v c.in-Some.join (sym c.next_on_line.ensures ∙ ap join_found is) first c.requires.0 c.loop-join.invariant.written in
     omega (arith, c.requires.1, c.loop-join.auto.log)
 
 pub apply-requires : goal.apply-requires
 apply-requires c =
     let a = c.args in
     let v = c.loop-join.segments in
-    (search rules, next-within a.line.now v c.loop-join.invariant.on_line c.in-Some.join (sym c.next_on_line.ensures ∙ ap join_found c.in-Some.is))
+    let is : c.next_on_line.result ≡ Some c.in-Some.join = grind arith in
+    (search rules, next-within a.line.now v c.loop-join.invariant.on_line c.in-Some.join (sym c.next_on_line.ensures ∙ ap join_found is))
 
 pub overflow_add-joins : goal.overflow_add-joins
 overflow_add-joins c =
     let a = c.args in
     let v = c.loop-join.segments in
     let first = a.segments.now in
-    let few = room a.line.now v c.in-Some.join (sym c.next_on_line.ensures ∙ ap join_found c.in-Some.is) first c.requires.0 c.loop-join.invariant.written in
+    let is : c.next_on_line.result ≡ Some c.in-Some.join = grind arith in
+    let few = room a.line.now v c.in-Some.join (sym c.next_on_line.ensures ∙ ap join_found is) first c.requires.0 c.loop-join.invariant.written in
     record { fits = omega (arith, c.requires.0.small.bins) }
 
 pub loop-join-smaller : goal.loop-join-smaller
@@ -78,7 +84,8 @@ loop-join-smaller c =
     let a = c.args in
     let v = c.loop-join.segments in
     let t = c.apply.new.self in
-    let next = sym c.next_on_line.ensures ∙ ap join_found c.in-Some.is in
+    let is : c.next_on_line.result ≡ Some c.in-Some.join = grind arith in
+    let next = sym c.next_on_line.ensures ∙ ap join_found is in
     fewer a.line.now v c.loop-join.invariant.on_line c.in-Some.join next t c.apply.ensures.joined
 
 pub loop-join-preserved : goal.loop-join-preserved
@@ -90,7 +97,8 @@ loop-join-preserved c =
     let j = c.in-Some.join in
     let first = a.segments.now in
     let all = joins_made first.count w (held first) in
-    let next = sym c.next_on_line.ensures ∙ ap join_found c.in-Some.is in
+    let is : c.next_on_line.result ≡ Some c.in-Some.join = grind arith in
+    let next = sym c.next_on_line.ensures ∙ ap join_found is in
     let done = c.apply.ensures.joined in
     record {
       on_line = on-line-after a.line.now v c.loop-join.invariant.on_line j next t done;
@@ -107,5 +115,6 @@ returns c =
     let w = joins_of a.line.now in
     let first = a.segments.now in
     let all = joins_made first.count w (held first) in
-    let none = sym c.next_on_line.ensures ∙ ap join_found c.in_default.is in
+    let is : c.next_on_line.result ≡ None = grind arith in
+    let none = sym c.next_on_line.ensures ∙ ap join_found is in
     written_all (subst (Written all a.log.now c.loop-join.log c.loop-join.joins) (made_none w v.count (held v) none) c.loop-join.invariant.written)

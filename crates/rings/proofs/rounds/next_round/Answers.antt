@@ -73,14 +73,15 @@ next_join-requires c =
     let ring = c.requires.ring_held in
     let most = ring.limits.0 in
     let none = c.requires.none_among in
+    let rs : Repeated v.separators c.repeat.new.a 1 v.count c.args.bins = search rules in
     let below = few a.turns.now v a.bins ring in (
       search rules,
       (
         record { places = (omega (arith, ring.prepared.places, c.repeat.auto), omega (arith, ring.prepared.places, c.repeat-2.auto)) },
         (
-          inside a.turns.now v a.bins ring c.repeat.new.a c.repeat-2.new.a c.repeat.ensures c.repeat-2.ensures,
+          inside a.turns.now v a.bins ring c.repeat.new.a c.repeat-2.new.a rs c.repeat-2.ensures,
           (
-            none_left a.turns.now v a.bins ring c.repeat.new.a c.repeat-2.new.a c.repeat.ensures c.repeat-2.ensures a.known none.1 none.0,
+            none_left a.turns.now v a.bins ring c.repeat.new.a c.repeat-2.new.a rs c.repeat-2.ensures a.known none.1 none.0,
             (omega (arith, ring.on_ring.cut.non_empty, count a.turns.now v a.bins ring), omega arith, none.1),
           ),
         ),
@@ -91,15 +92,18 @@ pub returns-clause-next : goal.returns-clause-next
 returns-clause-next c =
     let a = c.args in
     let v = a.modes.now in
-    c.next_join.ensures ∙ next-is a.turns.now v a.bins c.requires.ring_held c.repeat.new.a c.repeat-2.new.a c.repeat.ensures c.repeat-2.ensures
+    let rs : Repeated v.separators c.repeat.new.a 1 v.count c.args.bins = search rules in
+    c.next_join.ensures ∙ next-is a.turns.now v a.bins c.requires.ring_held c.repeat.new.a c.repeat-2.new.a rs c.repeat-2.ensures
 
 pub returns-clause-held : goal.returns-clause-held
 returns-clause-held c =
     let v = c.args.modes.now in
-    (refl, held_kept v.separators v.peaks c.repeat.new.a c.repeat-2.new.a v.count c.args.bins c.repeat.ensures c.repeat-2.ensures)
+    let rs : Repeated v.separators c.repeat.new.a 1 v.count c.args.bins = search rules in
+    (refl, held_kept v.separators v.peaks c.repeat.new.a c.repeat-2.new.a v.count c.args.bins rs c.repeat-2.ensures)
 
 pub returns-clause-again : goal.returns-clause-again
 returns-clause-again c =
     let a = c.args in
     let v = a.modes.now in
-    again a.turns.now v a.bins c.requires.ring_held c.repeat.new.a c.repeat-2.new.a c.repeat.ensures c.repeat-2.ensures
+    let rs : Repeated v.separators c.repeat.new.a 1 v.count c.args.bins = search rules in
+    again a.turns.now v a.bins c.requires.ring_held c.repeat.new.a c.repeat-2.new.a rs c.repeat-2.ensures
