@@ -1,6 +1,6 @@
 -- What a call's number says: if a call is served, no ground holds; a later ground is tested only if none of the earlier ones holds. Assumes nothing.
 use Prim.Native.Nat.{ℕ, ◌/◌, ◌≤◌, ◌<◌}
-use mathlib.Core.Path.{◌≡◌, refl, sym, ap, ◌∙◌}
+use mathlib.Core.Path.{◌≡◌, refl, sym, ap, ap₂, ◌∙◌}
 use mathlib.Core.Bool.{Bool, true, false, cond, not, false≢true}
 use mathlib.Core.List.{List, [], ◌∷◌, ◌++◌}
 use lib.Dec.{ltb, eqb}
@@ -9,7 +9,7 @@ use lib.ListN.{length}
 use lib.Signed.{lt_z}
 use native.Mathlib.Omega.{arith}
 use native.Mathlib.Decide.{ℕ_discrete}
-use borrow.Author.Tests.{ltb-false, eqb-true}
+use borrow.Author.Tests.{ltb-false, eqb-true, eq-eqb, ne_eqb}
 use Rattle.lists.proofs.Connectives.{both_false, was-true}
 use Rattle.lists.proofs.Signed.{nlt-le-ℤ}
 use Rattle.lists.specs.Lists.{total}
@@ -179,8 +179,45 @@ module _ (e : Closeness) (h : List ℕ) (log : List ℤ) (places : ℕ) where
       go (yes y) true q = (y, refl)
       go (yes y) false q = absurd (omega (arith, replay-other y q, z))
 
+-- ---- a place for each label
+module _ (labels places : ℕ) where
+  pub labels-alike : places ≡ labels → first_ground (bad_labels labels places ∷ []) ≡ 0
+  unfolding first_ground
+  labels-alike same = rw (eq-eqb places labels same) refl
+
+  pub labels-unlike : ¬ (places ≡ labels) → first_ground (bad_labels labels places ∷ []) ≡ 9
+  unfolding first_ground
+  labels-unlike other = rw (ne_eqb places labels other) refl
+
+  pub labels-served : first_ground (bad_labels labels places ∷ []) ≡ 0 → places ≡ labels
+  labels-served z = eqb-true places labels (was-true (eqb places labels) (ground-none (bad_labels labels places) [] (omega arith) z).0)
+
+  pub labels-refused : (n : ℕ) → n ≡ first_ground (bad_labels labels places ∷ []) → ¬ (n ≡ 0) → ¬ (places ≡ labels)
+  labels-refused n e some same = some (e ∙ labels-alike same)
+
+-- what was asked of one pair of numbers, said of another
+module _ (labels places labels' places' : ℕ) where
+  pub refused-alike : (n : ℕ) → n ≡ first_ground (bad_labels labels places ∷ []) → ¬ (n ≡ 0) → (places' ≡ labels' → places ≡ labels) → n ≡ first_ground (bad_labels labels' places' ∷ [])
+  refused-alike n e some back =
+      let other = labels-refused labels places n e some in
+      e ∙ labels-unlike labels places other ∙ sym (labels-unlike labels' places' (λ same. other (back same)))
+
+  pub served-alike : 0 ≡ first_ground (bad_labels labels places ∷ []) → (places ≡ labels → places' ≡ labels') → 0 ≡ first_ground (bad_labels labels' places' ∷ [])
+  served-alike e on = sym (labels-alike labels' places' (on (labels-served labels places (sym e))))
+
+  pub asked-alike : labels ≡ labels' → places ≡ places' → first_ground (bad_labels labels places ∷ []) ≡ first_ground (bad_labels labels' places' ∷ [])
+  asked-alike e f = ap₂ (λ (l p : ℕ). first_ground (bad_labels l p ∷ [])) e f
+
 -- ---- labels that are widened
 -- the two lists are as long
 pub widen-served : (narrow : List ℕ) (places : ℕ) → widen_number narrow places ≡ 0 → places ≡ length narrow
 unfolding widen_number
-widen-served narrow places z = eqb-true places (length narrow) (was-true (eqb places (length narrow)) (ground-none (bad_labels (length narrow) places) [] (omega arith) z).0)
+widen-served narrow places z = labels-served (length narrow) places z
+
+pub widen-refused-alike : (narrow : List ℕ) (places places' n : ℕ) → n ≡ widen_number narrow places → ¬ (n ≡ 0) → (places' ≡ length narrow → places ≡ length narrow) → n ≡ widen_number narrow places'
+unfolding widen_number
+widen-refused-alike narrow places places' n e some back = refused-alike (length narrow) places (length narrow) places' n e some back
+
+pub widen-served-alike : (narrow : List ℕ) (places places' : ℕ) → 0 ≡ widen_number narrow places → (places ≡ length narrow → places' ≡ length narrow) → 0 ≡ widen_number narrow places'
+unfolding widen_number
+widen-served-alike narrow places places' e on = served-alike (length narrow) places (length narrow) places' e on

@@ -20,6 +20,9 @@ unfolding size_of
 size_is text vs w h e p q = rw (← e, p, q) refl
 
 -- ---- the size
+pub size-none : (n : ℕ) → n ≡ 0 → bad_size n ≡ true
+size-none n z = rw z refl
+
 pub size-large : (n : ℕ) → most_swatch_pixels < n → bad_size n ≡ true
 size-large n h = rw (lt-ltb most_swatch_pixels n h) (or-true (eqb n 0))
 

@@ -21,7 +21,7 @@ pub units_small : units_per_bit ≤ 2 ^ 40
 unfolding units_per_bit round_count
 units_small = lit≤ tt
 
-lg-small : (x : ℕ) → Loggable x → lg x ≤ 2 ^ 45
+pub lg-small : (x : ℕ) → Loggable x → lg x ≤ 2 ^ 45
 lg-small x v = omega (arith, lg-below x v, units_small)
 
 -- room for wider ranges too

@@ -9,7 +9,7 @@ use mir.Syntax.{w32}
 use mir.ValLaws.{to_z-of_z}
 use Rattle.grounds.specs.Checks.{ground_number}
 use Rattle.grounds.proofs.Checks.{ground-some}
-use Rattle.grounds.proofs.Served.{grounds-served, grounds-turned-down}
+use Rattle.grounds.proofs.Served.{grounds-served, grounds-turned-down, refused-alike, served-alike}
 use Rattle.grounds.proofs.check_card.Goals as goal
 use Rattle.grounds.proofs.check_card.Goals.{then-bytes-eq0-via-then-bytes-eq0, then-bytes-eq0-via-else-bytes-eq0+then-bytes-gt0}
 
@@ -54,11 +54,11 @@ returns-in_err-check_labels-clause-number c =
     let p = err_from_is_err_and c.from_residual-in_err-check_labels.result c.from_residual-in_err-check_labels.ensures.1 in
     let said : 0 ≡ first_ground (bad_closeness c.args.closeness ∷ []) = rw (to_z-of_z w32 c.args.closeness c.ranges.closeness) at c.in_ok-checked.ensures.number in
     rw (p.1, p.2)
-    (c.in_err-check_labels.ensures
+    (refused-alike _ _ (length c.args.pixels.now / 3) c.args.places _ c.in_err-check_labels.ensures (ground-some c.in_err-check_labels.field-0.0) (λ same. omega (arith, same))
     ∙ labels_left c.args.closeness c.args.pixels.now c.args.places c.if-bytes-eq0.false c.if-bytes-gt0.false c.if-bytes-gt-MOST_PIXELS.false (sym said))
 
 pub returns-clause-number : goal.returns-clause-number
 returns-clause-number c =
     let said : 0 ≡ first_ground (bad_closeness c.args.closeness ∷ []) = rw (to_z-of_z w32 c.args.closeness c.ranges.closeness) at c.in_ok-checked.ensures.number in
-    c.in_ok-check_labels.ensures
+    served-alike _ _ (length c.args.pixels.now / 3) c.args.places c.in_ok-check_labels.ensures (λ same. omega (arith, same))
     ∙ labels_left c.args.closeness c.args.pixels.now c.args.places c.if-bytes-eq0.false c.if-bytes-gt0.false c.if-bytes-gt-MOST_PIXELS.false (sym said)

@@ -1,5 +1,5 @@
 -- `card` meets its contract: the grounds of a card, then the entries and the labels. Assumes nothing.
-use Rattle.std.proofs.Common.{arith, ℕ, refl, sym, ap, ◌∙◌, ◌≡◌, length}
+use Rattle.std.proofs.Common.{arith, ℕ, refl, sym, ap, ◌∙◌, ◌≡◌, ◌≤◌, ◌<◌, length}
 use Rattle.std.proofs.lemmas.Result.{err_from_is_err_and}
 use mir.Syntax.{w32}
 use mir.ValLaws.{to_z-of_z}
@@ -43,7 +43,8 @@ returns-then-made-gt-MOST_ENTRIES-clause-answer c =
     let ps = pixels_of c.args.pixels.now in
     let found : c.make_card-made.result ≡ card_entries c.args.closeness ps = c.make_card-made.ensures.0 ∙ ap (λ (e : Closeness). card_entries e ps) is in
     let total : c.make_card-made.result.total ≡ length (entries c.args.closeness ps) = ap (λ (x : CardEntries). x.total) found ∙ total-is c.args.closeness ps in
-    let number = many-number c.args.closeness c.args.pixels.now (length c.args.labels.now) c.make_card-made.result.total z total c.if-made-gt-MOST_ENTRIES.true in
+    let many : most_entries < c.make_card-made.result.total = omega (arith, c.if-made-gt-MOST_ENTRIES.true) in
+    let number = many-number c.args.closeness c.args.pixels.now (length c.args.labels.now) c.make_card-made.result.total z total many in
     card-refused c.args.closeness c.args.pixels.now c.args.labels.now 11 number (λ y. omega (arith, y))
 
 pub returns-then-made-gt-MOST_ENTRIES-clause-labels : goal.returns-then-made-gt-MOST_ENTRIES-clause-labels
@@ -55,8 +56,9 @@ returns-then-made-gt-MOST_ENTRIES-clause-labels c =
     let found : c.make_card-made.result ≡ card_entries c.args.closeness ps = c.make_card-made.ensures.0 ∙ ap (λ (e : Closeness). card_entries e ps) is in
     let left : c.make_card-made.new.labels ≡ labels_left c.args.closeness ps c.args.labels.now = c.make_card-made.ensures.1 ∙ ap (λ (e : Closeness). labels_left e ps c.args.labels.now) is in
     let total : c.make_card-made.result.total ≡ length (entries c.args.closeness ps) = ap (λ (x : CardEntries). x.total) found ∙ total-is c.args.closeness ps in
-    let number = many-number c.args.closeness c.args.pixels.now (length c.args.labels.now) c.make_card-made.result.total z total c.if-made-gt-MOST_ENTRIES.true in
-    left ∙ many-left c.args.closeness c.args.pixels.now (length c.args.labels.now) c.make_card-made.result.total z total c.if-made-gt-MOST_ENTRIES.true c.args.labels.now ∙ labels-as-lent c.args.closeness c.args.pixels.now c.args.labels.now 11 number (λ y. omega (arith, y))
+    let many : most_entries < c.make_card-made.result.total = omega (arith, c.if-made-gt-MOST_ENTRIES.true) in
+    let number = many-number c.args.closeness c.args.pixels.now (length c.args.labels.now) c.make_card-made.result.total z total many in
+    left ∙ many-left c.args.closeness c.args.pixels.now (length c.args.labels.now) c.make_card-made.result.total z total many c.args.labels.now ∙ labels-as-lent c.args.closeness c.args.pixels.now c.args.labels.now 11 number (λ y. omega (arith, y))
 
 pub returns-clause-answer : goal.returns-clause-answer
 unfolding most_entries
@@ -66,7 +68,7 @@ returns-clause-answer c =
     let ps = pixels_of c.args.pixels.now in
     let found : c.make_card-made.result ≡ card_entries c.args.closeness ps = c.make_card-made.ensures.0 ∙ ap (λ (e : Closeness). card_entries e ps) is in
     let total : c.make_card-made.result.total ≡ length (entries c.args.closeness ps) = ap (λ (x : CardEntries). x.total) found ∙ total-is c.args.closeness ps in
-    let few = c.if-made-gt-MOST_ENTRIES.false in
+    let few : c.make_card-made.result.total ≤ most_entries = omega (arith, c.if-made-gt-MOST_ENTRIES.false) in
     let number = few-number c.args.closeness c.args.pixels.now (length c.args.labels.now) c.make_card-made.result.total z total few in
     let es = ap (λ (x : CardEntries). x.entries) found ∙ few-entries c.args.closeness c.args.pixels.now (length c.args.labels.now) c.make_card-made.result.total z total few in
     ap (made 0 c.make_card-made.result.total) es ∙ ap (λ (k : ℕ). made 0 k (padded most_entries no_entry (entries c.args.closeness ps))) total ∙ card-served c.args.closeness c.args.pixels.now c.args.labels.now 0 number refl
@@ -80,7 +82,7 @@ returns-clause-labels c =
     let found : c.make_card-made.result ≡ card_entries c.args.closeness ps = c.make_card-made.ensures.0 ∙ ap (λ (e : Closeness). card_entries e ps) is in
     let left : c.make_card-made.new.labels ≡ labels_left c.args.closeness ps c.args.labels.now = c.make_card-made.ensures.1 ∙ ap (λ (e : Closeness). labels_left e ps c.args.labels.now) is in
     let total : c.make_card-made.result.total ≡ length (entries c.args.closeness ps) = ap (λ (x : CardEntries). x.total) found ∙ total-is c.args.closeness ps in
-    let few = c.if-made-gt-MOST_ENTRIES.false in
+    let few : c.make_card-made.result.total ≤ most_entries = omega (arith, c.if-made-gt-MOST_ENTRIES.false) in
     let number = few-number c.args.closeness c.args.pixels.now (length c.args.labels.now) c.make_card-made.result.total z total few in
     let ls = left ∙ few-left c.args.closeness c.args.pixels.now (length c.args.labels.now) c.make_card-made.result.total z total few c.args.labels.now in
     ls ∙ labels-served c.args.closeness c.args.pixels.now c.args.labels.now 0 number refl
@@ -94,7 +96,7 @@ returns-clause-sound c =
     let found : c.make_card-made.result ≡ card_entries c.args.closeness ps = c.make_card-made.ensures.0 ∙ ap (λ (e : Closeness). card_entries e ps) is in
     let left : c.make_card-made.new.labels ≡ labels_left c.args.closeness ps c.args.labels.now = c.make_card-made.ensures.1 ∙ ap (λ (e : Closeness). labels_left e ps c.args.labels.now) is in
     let total : c.make_card-made.result.total ≡ length (entries c.args.closeness ps) = ap (λ (x : CardEntries). x.total) found ∙ total-is c.args.closeness ps in
-    let few = c.if-made-gt-MOST_ENTRIES.false in
+    let few : c.make_card-made.result.total ≤ most_entries = omega (arith, c.if-made-gt-MOST_ENTRIES.false) in
     let es = ap (λ (x : CardEntries). x.entries) found ∙ few-entries c.args.closeness c.args.pixels.now (length c.args.labels.now) c.make_card-made.result.total z total few in
     let ls = left ∙ few-left c.args.closeness c.args.pixels.now (length c.args.labels.now) c.make_card-made.result.total z total few c.args.labels.now in
     handed-sound c.args.closeness c.args.pixels.now _ _ _ total es ls (card-sound c.args.closeness c.args.pixels.now (length c.args.labels.now) (λ j. let known = c.type_inv.pixels j in omega arith) (asked-none c.args.closeness c.args.pixels.now (length c.args.labels.now) z))
