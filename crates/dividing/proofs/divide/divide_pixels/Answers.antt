@@ -1,7 +1,6 @@
-use Rattle.std.proofs.Common.{◌≡◌, ◌-◌, ◌++◌, ◌∙◌, length, take, drop, sym, arith, rules}
-use Rattle.palette.specs.Cards.{pixels_of}
+use Rattle.std.proofs.Common.{◌≡◌, ◌-◌, ◌++◌, ◌∙◌, length, drop, sym, arith, rules}
 use Rattle.dividing.proofs.Walking.{slice_from, put_from}
-use Rattle.dividing.proofs.Halves.{kinds-laid, greys-long, greys-room, colours-lent, colours-long, colours-room, both-divided, some-few}
+use Rattle.dividing.proofs.Halves.{kinds-laid, greys-long, greys-room, colours-lent, colours-long, colours-room, both-divided, found-few}
 use Rattle.dividing.proofs.divide.divide_pixels.Goals as goal
 
 -- the greys
@@ -40,9 +39,9 @@ split_some-found-requires-2 c =
     let v = f.new.other in
     let long = colours-long bytes o t g n laid u v f.auto.order f.auto.other in
     let lent = colours-lent bytes o t g n laid u v f.auto.order f.auto.other in
-    let few = some-few c.args.closeness (pixels_of bytes) 1 0 (take g o) in
+    let few = found-few _ _ _ _ _ _ _ _ _ _ _ _ f.ensures in
     record {
-      room = omega (arith, few, f.ensures.count);
+      room = omega (arith, few);
       codes = omega arith;
       lists = colours-room bytes o t g n laid u v f.auto.order f.auto.other;
       keyed = omega (arith, long, laid.order, c.requires.2, f.auto.keys);
