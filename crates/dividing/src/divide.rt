@@ -8,7 +8,7 @@ ghost use Rattle.dividing.specs.Kinds.{leaves_some, PixelsDivided};
 use crate::Node;
 use crate::keeping::CodedRange;
 use crate::kinds::sort_kinds;
-use crate::levels::{Level, split};
+use crate::levels::{LAST_LEVEL, Level, split};
 use crate::sorting::copy;
 use verdict::Closeness;
 
@@ -57,7 +57,7 @@ pub fn divide_pixels(
     let colours = order.len() - greys;
     let grey = Node {
         closeness,
-        next: Some(Level::Intensity),
+        next: LAST_LEVEL,
         code: Kind::Grey as u32,
     };
     found = split_some(
