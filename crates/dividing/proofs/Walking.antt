@@ -19,7 +19,7 @@ use Rattle.dividing.specs.Sorted.{code_count, mode_base, AllBelow, tally}
 use Rattle.dividing.specs.Splitting.{AllIn, left_of, level_at, bins_of, modes_of, marks_of, mode_of, LevelSorted, RangeSorted, leaves, walked, resting, Split, Kept, Divisible, Walkable}
 use Rattle.dividing.specs.Keeping.{codes_of, sizes_of}
 use Rattle.dividing.specs.declared.Node.{Node}
-use Rattle.dividing.specs.declared.keeping.Found.{Found}
+use Rattle.dividing.specs.declared.keeping.CodedRange.{CodedRange}
 use Rattle.dividing.specs.declared.levels.Level as next
 use Rattle.dividing.specs.declared.levels.Level.TheVariants as variant
 use Rattle.std.specs.Prelude.{Option, None, Some}
@@ -144,12 +144,13 @@ module _ (at s : ℕ) (xs u : List ℕ) (fits : at + s ≤ length xs) (long : le
   put_rest = ap (drop (at + s)) (sym (append_assoc (take at xs) u _)) ∙ drop_at (take at xs ++ u) _ (at + s) seam ∙ ap (λ (j : ℕ). drop j (drop at xs)) size
 
 -- ---- the modes of a level, walked one by one
--- the lists of a walk
+-- the lists of a walk, and how many entries are found
 pub record Lists : Type 0 where
   pub order : List ℕ
   pub other : List ℕ
   pub keys : List ℕ
-  pub found : Found
+  pub ranges : List CodedRange
+  pub found : ℕ
 
 -- after m modes, of a walk that began with other lists
 pub record Walks (node : Node) (parts bytes : List ℕ) (l₀ : Lists) (m at : ℕ) (l : Lists) : Type 0 where
@@ -159,14 +160,14 @@ pub record Walks (node : Node) (parts bytes : List ℕ) (l₀ : Lists) (m at : �
   pub other_long : length l.other ≡ length l₀.other
   pub keys_long : length l.keys ≡ length l₀.keys
   pub ahead : drop at l.order ≡ drop at l₀.order
-  pub walked_so : Kept (walked node.closeness (pixels_of bytes) (left_of node.next) node.code (take m parts) (take at l₀.order)) l₀.found l.found
-      (resting (left_of node.next) (take at l.order) (take at l.other))
+  pub walked_so : Kept (walked node.closeness (pixels_of bytes) (left_of node.next) node.code (take m parts) (take at l₀.order)) l₀.found l₀.ranges l.ranges
+      (resting (left_of node.next) (take at l.order) (take at l.other)) l.found
 
 resting-none : (n : ℕ) → resting n [] [] ≡ []
 resting-none zero = refl
 resting-none (suc n) = resting-none n
 
-module _ (node : Node) (parts bytes : List ℕ) (l₀ : Lists) (d : Walkable node parts bytes l₀.order l₀.other l₀.keys l₀.found.count) where
+module _ (node : Node) (parts bytes : List ℕ) (l₀ : Lists) (d : Walkable node parts bytes l₀.order l₀.other l₀.keys l₀.found) where
   pub walks-none : Walks node parts bytes l₀ 0 0 l₀
   unfolding walked
   walks-none = record {
@@ -176,11 +177,11 @@ module _ (node : Node) (parts bytes : List ℕ) (l₀ : Lists) (d : Walkable nod
     other_long = refl;
     keys_long = refl;
     ahead = refl;
-    walked_so = rw (resting-none (left_of node.next)) (split-none l₀.found.count (codes_of l₀.found.ranges) (sizes_of l₀.found.ranges));
+    walked_so = rw (resting-none (left_of node.next)) (split-none l₀.found (codes_of l₀.ranges) (sizes_of l₀.ranges));
   }
 
   module _ (m at : ℕ) (l : Lists) (w : Walks node parts bytes l₀ m at l) where
-    pub walks-all : length parts ≤ m → Kept (walked node.closeness (pixels_of bytes) (left_of node.next) node.code parts l₀.order) l₀.found l.found (resting (left_of node.next) l.order l.other)
+    pub walks-all : length parts ≤ m → Kept (walked node.closeness (pixels_of bytes) (left_of node.next) node.code parts l₀.order) l₀.found l₀.ranges l.ranges (resting (left_of node.next) l.order l.other) l.found
     walks-all end =
         let all = take_all m parts end in
         let over : at ≡ length l₀.order = w.start ∙ ap total all ∙ d.whole in
@@ -200,7 +201,7 @@ module _ (node : Node) (parts bytes : List ℕ) (l₀ : Lists) (d : Walkable nod
           rw (get_or-take (at + get_or parts m 0 - at) (drop at l.order) i 0 (omega arith), w.ahead, get_or-drop at l₀.order i 0) (d.inside (at + i) (omega (arith, walks-fit)))
 
       pub walks-divisible : Divisible (record { closeness = node.closeness; next = node.next; code = node.code + m }) bytes
-          (take (at + get_or parts m 0 - at) (drop at l.order)) (take (at + get_or parts m 0 - at) (drop at l.other)) l.keys l.found.count
+          (take (at + get_or parts m 0 - at) (drop at l.order)) (take (at + get_or parts m 0 - at) (drop at l.other)) l.keys l.found
       walks-divisible =
           let s = get_or parts m 0 in
           let first = part-long at s l.order (omega (arith, walks-fit, w.order_long)) in
@@ -220,12 +221,12 @@ module _ (node : Node) (parts bytes : List ℕ) (l₀ : Lists) (d : Walkable nod
           }
 
       -- the next mode split, in parts of the two lists
-      pub walks_more : (u v keys : List ℕ) (found : Found) → length u ≡ length (take (at + get_or parts m 0 - at) (drop at l.order))
+      pub walks_more : (u v keys : List ℕ) (ranges : List CodedRange) (found : ℕ) → length u ≡ length (take (at + get_or parts m 0 - at) (drop at l.order))
           → length v ≡ length (take (at + get_or parts m 0 - at) (drop at l.other)) → length keys ≡ length l.keys
-          → Kept (leaves node.closeness (pixels_of bytes) (left_of node.next) (node.code + m) (take (at + get_or parts m 0 - at) (drop at l.order))) l.found found (resting (left_of node.next) u v)
+          → Kept (leaves node.closeness (pixels_of bytes) (left_of node.next) (node.code + m) (take (at + get_or parts m 0 - at) (drop at l.order))) l.found l.ranges ranges (resting (left_of node.next) u v) found
           → Walks node parts bytes l₀ (m + 1) (at + get_or parts m 0)
-          (record { order = put_mid at (at + get_or parts m 0 - at) l.order u; other = put_mid at (at + get_or parts m 0 - at) l.other v; keys = keys; found = found })
-      walks_more u v keys found lu lv lk r =
+          (record { order = put_mid at (at + get_or parts m 0 - at) l.order u; other = put_mid at (at + get_or parts m 0 - at) l.other v; keys = keys; ranges = ranges; found = found })
+      walks_more u v keys ranges found lu lv lk r =
           let s = get_or parts m 0 in
           let xs = l₀.order in
           let fit : at + s ≤ length l.order = omega (arith, walks-fit, w.order_long) in
@@ -250,7 +251,7 @@ module _ (node : Node) (parts bytes : List ℕ) (l₀ : Lists) (d : Walkable nod
             other_long = same_len_mid at (at + s - at) l.other v lv ∙ w.other_long;
             keys_long = lk ∙ w.keys_long;
             ahead = put_rest at s l.order u fit lu ∙ ap (drop s) w.ahead ∙ drop-drop s at xs;
-            walked_so = rw (all, rests) (split-both _ _ l₀.found.count l.found.count found.count (codes_of l₀.found.ranges) (codes_of l.found.ranges) (codes_of found.ranges) (sizes_of l₀.found.ranges) (sizes_of l.found.ranges) (sizes_of found.ranges) _ (resting (left_of node.next) u v) w.walked_so (rw own at r));
+            walked_so = rw (all, rests) (split-both _ _ l₀.found l.found found (codes_of l₀.ranges) (codes_of l.ranges) (codes_of ranges) (sizes_of l₀.ranges) (sizes_of l.ranges) (sizes_of ranges) _ (resting (left_of node.next) u v) w.walked_so (rw own at r));
           }
 
 -- ---- codes stay small

@@ -18,7 +18,7 @@ use Rattle.palette.specs.Sound.{pixel_at, most_pixels}
 use Rattle.dividing.specs.Sorted.{tally, marked, sorted_by}
 use Rattle.dividing.specs.Keeping.{codes_of, sizes_of}
 use Rattle.dividing.specs.declared.Node.{Node}
-use Rattle.dividing.specs.declared.keeping.Found.{Found}
+use Rattle.dividing.specs.declared.keeping.CodedRange.{CodedRange}
 use Rattle.dividing.specs.declared.levels.Level as next
 use Rattle.dividing.specs.declared.levels.Level.TheVariants as variant
 pub use Rattle.dividing.specs.Sorted.{mode_base, code_count}
@@ -112,8 +112,8 @@ pub record Split (ls : List Leaf) (found : ℕ) (codes sizes codes' sizes' sorte
   pub order : sorted ≡ flat_map (λ (l : Leaf). l.pixels) ls
 
 -- the same, of the entries as they are kept
-abbrev pub Kept : (ls : List Leaf) (before after : Found) (sorted : List ℕ) → Type 0
-Kept ls before after sorted = Split ls before.count (codes_of before.ranges) (sizes_of before.ranges) (codes_of after.ranges) (sizes_of after.ranges) sorted after.count
+abbrev pub Kept : (ls : List Leaf) (found : ℕ) (before after : List CodedRange) (sorted : List ℕ) (found' : ℕ) → Type 0
+Kept ls found before after sorted found' = Split ls found (codes_of before) (sizes_of before) (codes_of after) (sizes_of after) sorted found'
 
 -- a range can be split at the levels left: however many entries it gives after those found, their count and codes stay small; each number is a pixel's, a coloured one's where
 -- hue comes next; and `other` and `keys` have room for as many

@@ -11,7 +11,7 @@ pub struct CodedRange {
     pub size: u32,
 }
 
-// The entries found so far. All are counted; as many as a card may hold are kept.
+// Room for the entries that a card may hold, and how many were found, kept or not.
 #[derive(Drop)]
 pub struct Found {
     pub ranges: [CodedRange; MOST_ENTRIES],
@@ -27,20 +27,20 @@ impl Found {
             count: 0,
         }
     }
+}
 
-    // One entry more, kept where there is room.
-    pub fn add(&mut self, code: u32, size: usize)
-        requires { (size < 2 ^ 32) × (self.old.count < 2 ^ 32) }
-        ensures { (self.new.count ≡ self.old.count + 1)
-            × (codes_of self.new.ranges ≡ set (codes_of self.old.ranges) self.old.count code)
-            × (sizes_of self.new.ranges ≡ set (sizes_of self.old.ranges) self.old.count size) }
-    {
-        if self.count < MOST_ENTRIES {
-            self.ranges[self.count] = CodedRange {
-                code,
-                size: size as u32,
-            };
-        }
-        self.count += 1;
+// One entry after those found, kept where there is room: how many are found then.
+pub fn leaf(code: u32, size: usize, ranges: &mut [CodedRange], found: usize) -> usize
+    requires { (size < 2 ^ 32) × (found < 2 ^ 32) }
+    ensures { (result ≡ found + 1)
+        × (codes_of ranges.new ≡ set (codes_of ranges.old) found code)
+        × (sizes_of ranges.new ≡ set (sizes_of ranges.old) found size) }
+{
+    if found < ranges.len() {
+        ranges[found] = CodedRange {
+            code,
+            size: size as u32,
+        };
     }
+    found + 1
 }

@@ -21,7 +21,14 @@ fn swatch_entries(pixels: &[u8], closeness: Closeness) -> CardEntries
     ensures { result ≡ card_entries closeness (pixels_of pixels.now) }
 {
     let mut scratch = Scratch::<MOST_SWATCH_PIXELS>::new();
-    making::make_entries(pixels, closeness, &mut scratch)
+    making::make_entries(
+        pixels,
+        closeness,
+        &mut scratch.order,
+        &mut scratch.other,
+        &mut scratch.keys,
+        &mut scratch.found,
+    )
 }
 
 // The card of a swatch, printed: how many bytes it has.

@@ -63,6 +63,15 @@ module _ (xs sizes : List ℕ) (pixels : ℕ) (r : RangesLaid xs sizes pixels) (
   pub part_in : AllBelow (take (at + get_or sizes k 0 - at) (drop at xs)) pixels
   part_in i l = rw (get_or-take (at + get_or sizes k 0 - at) (drop at xs) i 0 (omega (arith, part-long)), get_or-drop at xs i 0) (r.inside (at + i) (omega (arith, part-long, next-within)))
 
+-- ---- any part of the numbers that the ranges take up
+pub slice-few : (xs : List ℕ) (a b most : ℕ) → b ≤ most → length (take (b - a) (drop a xs)) ≤ most
+slice-few xs a b most h = omega (arith, length-take (b - a) (drop a xs))
+
+pub slice_in : (xs sizes : List ℕ) (pixels : ℕ) → RangesLaid xs sizes pixels → (a b : ℕ) → b ≤ total sizes → AllBelow (take (b - a) (drop a xs)) pixels
+slice_in xs sizes pixels r a b h i l =
+    let inside : i < b - a = omega (arith, length-take (b - a) (drop a xs)) in
+    rw (get_or-take (b - a) (drop a xs) i 0 inside, get_or-drop a xs i 0) (r.inside (a + i) (omega arith))
+
 -- ---- the ranges are those of branches, as many as a card may hold, and other numbers stand after theirs
 pub record BranchesLaid (ps : List Pixel) (bs : List Branch) (xs : List ℕ) : Type 0 where
   pub few : length bs ≤ most_entries

@@ -12,7 +12,7 @@ use dividing::{CodedRange, Found, divide_pixels};
 use palette::{Entry, MOST_ENTRIES, MOST_PIXELS, no_entries};
 use verdict::Closeness;
 
-// What the entries of an image of at most N pixels are made in: five bytes for each pixel, and the entries that are found. The pixels' numbers are left in `order`, entry by entry.
+// What the entries of an image of at most N pixels are made in: five bytes for each pixel, and the entries that are found.
 #[derive(Drop)]
 pub struct Scratch<const N: usize> {
     pub order: [u16; N],
@@ -57,30 +57,35 @@ fn held_entries(pixels: &[u8], numbers: &[u16], found: &Found) -> [Entry; MOST_E
     }
 }
 
-// The entries, in scratch with a place or more for each pixel. With too many no entry is made.
-pub fn make_entries<const N: usize>(
+// The entries, in lent scratch with a place or more for each pixel. The pixels' numbers are left in `order`, entry by entry. With too many entries none is made.
+// Written out in its two callers, so that the entries are made where the caller's card lies: called, it would hold them once more while the pixels are divided.
+#[inline(always)]
+pub fn make_entries(
     pixels: &[u8],
     closeness: Closeness,
-    scratch: &mut Scratch<N>,
+    order: &mut [u16],
+    other: &mut [u16],
+    keys: &mut [u8],
+    found: &mut Found,
 ) -> CardEntries
     requires pixels_len { (length pixels.now ≡ 3 * (length pixels.now / 3)) × (length pixels.now ≤ 3 * most_pixels) }
-    requires pixels_in_bounds { length pixels.now / 3 ≤ N }
+    requires pixels_in_bounds { (length pixels.now / 3 ≤ length order.old) × (length pixels.now / 3 ≤ length other.old) × (length pixels.now / 3 ≤ length keys.old) }
     ensures { (result ≡ card_entries closeness (pixels_of pixels.now))
-        × PixelsLaid closeness (pixels_of pixels.now) scratch.new.order (sizes_of scratch.new.found.ranges)
-        × (result.total ≡ scratch.new.found.count) }
+        × PixelsLaid closeness (pixels_of pixels.now) order.new (sizes_of found.new.ranges)
+        × (result.total ≡ found.new.count) }
 {
     let n = pixels.len() / 3;
-    divide_pixels(
+    found.count = divide_pixels(
         pixels,
         closeness,
-        &mut scratch.order[..n],
-        &mut scratch.other[..n],
-        &mut scratch.keys[..n],
-        &mut scratch.found,
+        &mut order[..n],
+        &mut other[..n],
+        &mut keys[..n],
+        &mut found.ranges,
     );
     CardEntries {
-        total: scratch.found.count as u32,
-        entries: held_entries(pixels, &scratch.order, &scratch.found),
+        total: found.count as u32,
+        entries: held_entries(pixels, order, found),
     }
 }
 
@@ -91,7 +96,14 @@ pub fn make_card(pixels: &[u8], closeness: Closeness, labels: &mut [u16]) -> Car
         × (labels.new ≡ labels_left closeness (pixels_of pixels.now) labels.old) }
 {
     let mut scratch = Scratch::<MOST_PIXELS>::new();
-    let made = make_entries(pixels, closeness, &mut scratch);
+    let made = make_entries(
+        pixels,
+        closeness,
+        &mut scratch.order,
+        &mut scratch.other,
+        &mut scratch.keys,
+        &mut scratch.found,
+    );
     if let Some(ranges) = held(&scratch.found) {
         write_labels(&scratch.order, ranges, labels);
     }

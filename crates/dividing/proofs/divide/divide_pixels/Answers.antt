@@ -1,12 +1,11 @@
-use Rattle.std.proofs.Common.{◌≡◌, ◌-◌, ◌++◌, ◌∙◌, length, take, drop, sym, arith, rules}
-use Rattle.palette.specs.Cards.{pixels_of, most_entries}
+use Rattle.std.proofs.Common.{◌≡◌, ◌-◌, ◌++◌, ◌∙◌, length, drop, sym, arith, rules}
 use Rattle.dividing.proofs.Walking.{slice_from, put_from}
-use Rattle.dividing.proofs.Halves.{kinds-laid, greys-long, greys-room, colours-lent, colours-long, colours-room, both-divided, some-few}
+use Rattle.dividing.proofs.Halves.{kinds-laid, greys-long, greys-room, colours-lent, colours-long, colours-room, both-divided, found-few}
 use Rattle.dividing.proofs.divide.divide_pixels.Goals as goal
 
 -- the greys
-pub split_some-requires : goal.split_some-requires
-split_some-requires c =
+pub split_some-found-requires : goal.split_some-found-requires
+split_some-found-requires c =
     let k = c.sort_kinds-greys in
     let o = k.new.greys in
     let t = k.new.colours in
@@ -26,8 +25,8 @@ split_some-requires c =
     }
 
 -- the colours
-pub split_some-requires-2 : goal.split_some-requires-2
-split_some-requires-2 c =
+pub split_some-found-requires-2 : goal.split_some-found-requires-2
+split_some-found-requires-2 c =
     let k = c.sort_kinds-greys in
     let o = k.new.greys in
     let t = k.new.colours in
@@ -35,14 +34,14 @@ split_some-requires-2 c =
     let n = length c.args.order.now in
     let bytes = c.args.pixels.now in
     let laid = kinds-laid bytes o t g n c.requires.0 k.auto.greys (k.auto.colours ∙ sym c.requires.1) k.ensures in
-    let f = c.split_some in
+    let f = c.split_some-found in
     let u = f.new.order in
     let v = f.new.other in
     let long = colours-long bytes o t g n laid u v f.auto.order f.auto.other in
     let lent = colours-lent bytes o t g n laid u v f.auto.order f.auto.other in
-    let few = some-few c.args.closeness (pixels_of bytes) 1 0 (take g o) in
+    let few = found-few _ _ _ _ _ _ _ _ _ _ _ _ f.ensures in
     record {
-      room = omega (arith, few, f.ensures.count);
+      room = omega (arith, few);
       codes = omega arith;
       lists = colours-room bytes o t g n laid u v f.auto.order f.auto.other;
       keyed = omega (arith, long, laid.order, c.requires.2, f.auto.keys);
@@ -52,7 +51,6 @@ split_some-requires-2 c =
     }
 
 pub returns : goal.returns
-unfolding most_entries
 returns c =
     let k = c.sort_kinds-greys in
     let o = k.new.greys in
@@ -61,15 +59,12 @@ returns c =
     let n = length c.args.order.now in
     let bytes = c.args.pixels.now in
     let laid = kinds-laid bytes o t g n c.requires.0 k.auto.greys (k.auto.colours ∙ sym c.requires.1) k.ensures in
-    let f = c.split_some in
+    let f = c.split_some-found in
     let u = f.new.order in
     let v = f.new.other in
-    let s = c.split_some-2 in
+    let s = c.split_some-found-2 in
     let w = s.new.order in
     let copied : c.copy.new.list ≡ slice_from (length o - g) (w ++ drop (length o - g) (put_from (length o - g) t v)) = search rules in
-    let room : length c.args.found.now.ranges ≡ 1000 = search rules in (
-      both-divided bytes o t g n laid u v f.auto.order f.auto.other w s.new.other s.auto.order s.auto.other c.copy.new.list copied
-          c.args.closeness (λ j. let known = c.type_inv.pixels j in omega arith)
-          _ _ _ _ _ _ f.new.found.count s.new.found.count f.ensures s.ensures,
-      room,
-    )
+    both-divided bytes o t g n laid u v f.auto.order f.auto.other w s.new.other s.auto.order s.auto.other c.copy.new.list copied
+    c.args.closeness (λ j. let known = c.type_inv.pixels j in omega arith)
+    _ _ _ _ _ _ f.result s.result f.ensures s.ensures

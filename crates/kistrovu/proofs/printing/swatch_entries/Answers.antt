@@ -8,4 +8,4 @@ pub make_entries-requires : goal.make_entries-requires
 unfolding most_pixels most_swatch_pixels
 make_entries-requires c =
     let p = c.requires in
-    (omega arith, ((p.0, omega (arith, p.1)), omega (arith, p.1)))
+    record { pixels_len = (p.0, omega (arith, p.1)); pixels_in_bounds = (omega (arith, p.1), omega (arith, p.1), omega (arith, p.1)) }

@@ -1,4 +1,4 @@
-use Rattle.std.proofs.Common.{◌≡◌, ◌<◌, ◌≤◌, ◌+◌, ◌-◌, ◌/◌, ◌∙◌, ℕ, List, length, take, drop, get_or, refl, sym, ap, arith}
+use Rattle.std.proofs.Common.{◌≡◌, ◌<◌, ◌≤◌, ◌/◌, ◌∙◌, List, length, get_or, refl, sym, ap, arith}
 use Rattle.std.proofs.Math.ListN.{length-map, replicate, length-replicate}
 use Rattle.std.proofs.Math.Seq.{take_all}
 use Rattle.lists.specs.Lists.{over}
@@ -8,10 +8,10 @@ use Rattle.palette.specs.Cards.{pixels_of, most_entries, no_entry}
 use Rattle.palette.specs.Sound.{most_pixels}
 use Rattle.dividing.specs.declared.keeping.CodedRange.{CodedRange}
 use Rattle.dividing.specs.Keeping.{codes_of, sizes_of}
-use Rattle.making.specs.Making.{sums_of, entry_by, entries_by}
+use Rattle.making.specs.Making.{entry_by, entries_by}
 use Rattle.making.proofs.Held.{size_at, code_at}
-use Rattle.making.proofs.Laid.{next-within, part-long, part_in}
-use Rattle.making.proofs.Made.{entries-long, part-few, made_more}
+use Rattle.making.proofs.Laid.{next-within, slice-few, slice_in}
+use Rattle.making.proofs.Made.{entries-long, slice-sums-few, sums-own, made_more}
 use Rattle.making.proofs.entries.entries_of.Goals as goal
 
 pub loop-k-init : goal.loop-k-init
@@ -63,8 +63,7 @@ gather-sums-requires c =
     let more : l.k < length sizes = omega (arith, length-map rs (λ (r : CodedRange). r.size), c.loop-k-test.true) in
     let size = size_at rs l.k in
     let next = next-within c.args.numbers.now sizes pixels c.requires.ranges l.k l.at l.invariant.start more in
-    let long = part-long c.args.numbers.now sizes pixels c.requires.ranges l.k l.at l.invariant.start more in
-    rw (sym size) (omega (arith, long, next, c.requires.many), part_in c.args.numbers.now sizes pixels c.requires.ranges l.k l.at l.invariant.start more)
+    (slice-few c.args.numbers.now _ _ most_pixels (omega (arith, size, next, c.requires.many)), slice_in c.args.numbers.now sizes pixels c.requires.ranges _ _ (omega (arith, size, next)))
 
 pub entry-requires : goal.entry-requires
 entry-requires c =
@@ -75,11 +74,7 @@ entry-requires c =
     let more : l.k < length sizes = omega (arith, length-map rs (λ (r : CodedRange). r.size), c.loop-k-test.true) in
     let size = size_at rs l.k in
     let next = next-within c.args.numbers.now sizes pixels c.requires.ranges l.k l.at l.invariant.start more in
-    let blank = replicate most_entries no_entry in
-    let part : ℕ → List ℕ = λ s. take (l.at + s - l.at) (drop l.at c.args.numbers.now) in
-    let sums : c.gather-sums.result ≡ sums_of (pixels_of c.args.pixels.now) (part (get_or sizes l.k 0)) = rw size c.gather-sums.ensures in
-    let few = part-few c.args.pixels.now c.args.numbers.now (codes_of rs) sizes pixels c.requires.ranges blank l.k l.at l.entries l.invariant more c.gather-sums.result sums
-    (λ j. let known = c.type_inv.pixels j in omega arith) in
+    let few = slice-sums-few c.args.pixels.now c.args.numbers.now (λ j. let known = c.type_inv.pixels j in omega arith) _ _ c.gather-sums.result c.gather-sums.ensures (get_or sizes l.k 0) (omega (arith, size)) in
     let code = code_at rs l.k in
     rw (sym code, sym size)
     (c.requires.small l.k (omega (arith, c.requires.coded, more)), c.requires.filled l.k more, omega (arith, next, c.requires.many), few)
@@ -106,8 +101,7 @@ loop-k-preserved c =
     let size = size_at rs l.k in
     let next = next-within c.args.numbers.now sizes pixels c.requires.ranges l.k l.at l.invariant.start more in
     let blank = replicate most_entries no_entry in
-    let part : ℕ → List ℕ = λ s. take (l.at + s - l.at) (drop l.at c.args.numbers.now) in
-    let sums : c.gather-sums.result ≡ sums_of (pixels_of c.args.pixels.now) (part (get_or sizes l.k 0)) = rw size c.gather-sums.ensures in
+    let sums = sums-own (pixels_of c.args.pixels.now) c.args.numbers.now _ _ c.gather-sums.result c.gather-sums.ensures l.at (get_or sizes l.k 0) (omega arith) (omega (arith, size)) in
     let is : c.entry.result ≡ entry_by (get_or (codes_of rs) l.k 0) (get_or sizes l.k 0) c.gather-sums.result = rw (code_at rs l.k, size) c.entry.ensures in
     rw (sym size)
     (made_more c.args.pixels.now c.args.numbers.now (codes_of rs) sizes pixels c.requires.ranges blank l.k l.at l.entries l.invariant more c.gather-sums.result sums
