@@ -3,7 +3,6 @@ use Rattle.std.specs.Prelude.{ℕ, [], Result, Ok, Err}
 use Rattle.std.specs.Result.{result_unwrap_or}
 use Rattle.verdict.specs.declared.Verdict.{Verdict}
 use Rattle.lists.specs.Lists.{padded}
-use Rattle.pooling.specs.declared.Place.{Place}
 use Rattle.palette.specs.Cards.{most_entries, no_entry}
 use Rattle.making.specs.declared.CardEntries.{CardEntries}
 use Rattle.grounds.specs.declared.Ground.{Ground}
@@ -27,10 +26,3 @@ log_given r = record { number = number_of r; joins = result_unwrap_or r 0 }
 abbrev pub card_given : Result CardEntries Ground → Card
 card_given (Ok made) = record { number = 0; len = made.total; entries = made.entries }
 card_given (Err why) = record { number = ground_number why; len = 0; entries = padded most_entries no_entry [] }
-
--- P4: what C reads of a bin's place
-abbrev pub sum_of : Place → ℕ
-sum_of p = p.block.sum
-
-abbrev pub length_of : Place → ℕ
-length_of p = p.block.len

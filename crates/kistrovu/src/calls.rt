@@ -1,7 +1,6 @@
 // What the public calls do: each inner function checks the grounds that concern its call, and answers with the first that holds, or with
 // what the call hands back.
-ghost use Rattle.std.specs.Prelude.{◌≡◌, ◌≤◌, OnOk, length, map};
-ghost use Rattle.lists.specs.Lists.{over};
+ghost use Rattle.std.specs.Prelude.{◌≡◌, OnOk, length};
 ghost use Rattle.std.specs.Result.{result_unwrap_or};
 ghost use Rattle.pooling.specs.Blocks.{direction};
 ghost use Rattle.verdict.specs.Exactness.{VerdictSound};
@@ -25,12 +24,11 @@ ghost use Rattle.kistrovu.specs.Answers.{
   widened_list,
 };
 ghost use Rattle.kistrovu.specs.Facts.{SoundAnswer};
-ghost use Rattle.kistrovu.specs.Calls.{sum_of, length_of, verdict_given, modes_given, log_given, card_given};
+ghost use Rattle.kistrovu.specs.Calls.{verdict_given, modes_given, log_given, card_given};
 
 use grounds::Ground;
 use making::CardEntries;
 use palette::MOST_ENTRIES;
-use pooling::Place;
 use verdict::Verdict;
 
 // The number of a call, and what it hands back with it: what was made, or `none` if the call is turned down.
@@ -41,18 +39,6 @@ pub fn answered<T: Copy>(made: Result<T, Ground>, none: T) -> (u32, T)
     match made {
         Ok(value) => (0, value),
         Err(why) => (why.number(), none),
-    }
-}
-
-// The blocks of a fit as C reads them: in two lists, their sums and their lengths.
-pub fn write_blocks(places: &[Place], sums: &mut [u32], lengths: &mut [u32])
-    requires { (length places.now ≤ length sums.old) × (length places.now ≤ length lengths.old) }
-    ensures sums { sums.new ≡ over (map sum_of places.now) sums.old }
-    ensures lengths { lengths.new ≡ over (map length_of places.now) lengths.old }
-{
-    for (i, place) in places.iter().enumerate() {
-        sums[i] = place.block.sum;
-        lengths[i] = place.block.len;
     }
 }
 

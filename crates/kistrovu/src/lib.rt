@@ -35,10 +35,9 @@ ghost use Rattle.kistrovu.specs.Answers.{
 };
 ghost use Rattle.kistrovu.specs.Facts.{IfServed, AcceptsOnly, SoundAnswer};
 
-use calls::{answered, card, join_log, judge, line_modes, replay, ring_modes, widen, write_blocks};
+use calls::{answered, card, join_log, judge, line_modes, replay, ring_modes, widen};
 use palette::{Entry, MOST_ENTRIES};
 use pixel::{Measures, Pixel};
-use pooling::{Block, Place};
 use swatch::PRINTED_MOST;
 use verdict::Verdict;
 
@@ -133,13 +132,7 @@ pub fn kistrovu_fit(histogram: &[u32], rising: bool) -> FitAnswer
     let mut lengths = [0; 256];
     let number = answered(grounds::check_fit(histogram), ()).0;
     if number == 0 {
-        let nowhere = Place {
-            start: 0,
-            block: Block { sum: 0, len: 0 },
-        };
-        let mut places = [nowhere; 256];
-        pooling::fit_places(histogram, rising, &mut places);
-        write_blocks(&places[..histogram.len()], &mut sums, &mut lengths);
+        pooling::fit_blocks(histogram, rising, &mut sums, &mut lengths);
     }
     FitAnswer {
         number,

@@ -1,9 +1,9 @@
 // Pooling: the blocks of a monotone fit, and each bin's place in them.
 #![tactic(auto)]
 
-ghost use Rattle.std.specs.Prelude.{◌≡◌, ◌+◌, ◌<◌, ◌≤◌, length, drop};
+ghost use Rattle.std.specs.Prelude.{◌≡◌, ◌+◌, ◌<◌, ◌≤◌, length, drop, map};
 ghost use Rattle.lists.specs.Lists.{over};
-ghost use Rattle.pooling.specs.Blocks.{Block, direction, steps_to, blocks};
+ghost use Rattle.pooling.specs.Blocks.{Block, direction, steps_to, blocks, fitted};
 ghost use Rattle.pooling.specs.Blocks as Blocks;
 ghost use Rattle.pooling.specs.Limits.{most_bins, most_counts, Small};
 ghost use Rattle.pooling.specs.Best.{Pooled};
@@ -120,4 +120,28 @@ pub fn fit_places(h: &[u32], rising: bool, places: &mut [Place])
     ensures { places.new ≡ over (Blocks.places (direction rising) h.now) places.old }
 {
     write_places(h, rising, &mut places[..h.len()]);
+}
+
+// Writes the sum and the length of each bin's block: the places of the fit, as C reads them, in two lists.
+pub fn fit_blocks(h: &[u32], rising: bool, sums: &mut [u32], lens: &mut [u32])
+    requires small { Small h.now }
+    requires h_in_bounds { (length h.now ≤ length sums.old) × (length h.now ≤ length lens.old) }
+    ensures sums { sums.new ≡ over (map (λ (b : Block). b.sum) (fitted (direction rising) h.now)) sums.old }
+    ensures lens { lens.new ≡ over (map (λ (b : Block). b.len) (fitted (direction rising) h.now)) lens.old }
+{
+    let nowhere = Place {
+        start: 0,
+        block: Block { sum: 0, len: 0 },
+    };
+    let mut scratch = [nowhere; MOST_BINS];
+    let places = &mut scratch[..h.len()];
+    let top = pool(h, rising, places);
+    let mut from: usize = 0;
+    for next in top..places.len() {
+        let Block { sum, len } = places[next].block;
+        let to = from + len as usize;
+        sums[from..to].fill(sum);
+        lens[from..to].fill(len);
+        from = to;
+    }
 }
