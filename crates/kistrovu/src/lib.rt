@@ -38,8 +38,6 @@ ghost use Rattle.kistrovu.specs.Facts.{IfServed, AcceptsOnly, SoundAnswer};
 use calls::{answered, card, join_log, judge, line_modes, replay, ring_modes, widen};
 use palette::{Entry, MOST_ENTRIES};
 use pixel::{Measures, Pixel};
-use pooling::{Block, Place};
-use std::array;
 use swatch::PRINTED_MOST;
 use verdict::Verdict;
 
@@ -130,20 +128,16 @@ pub fn kistrovu_fit(histogram: &[u32], rising: bool) -> FitAnswer
     ensures { (result ≡ fit_answer rising histogram.now)
         × IfServed result.number (Pooled (direction rising) histogram.now) }
 {
-    let nowhere = Place {
-        start: 0,
-        block: Block { sum: 0, len: 0 },
-    };
-    let mut places = [nowhere; 256];
+    let mut sums = [0; 256];
+    let mut lengths = [0; 256];
     let number = answered(grounds::check_fit(histogram), ()).0;
     if number == 0 {
-        pooling::fit_places(histogram, rising, &mut places);
+        pooling::fit_blocks(histogram, rising, &mut sums, &mut lengths);
     }
-    // C reads two lists of numbers
     FitAnswer {
         number,
-        sums: array::from_fn(|i| places[i].block.sum),
-        lengths: array::from_fn(|i| places[i].block.len),
+        sums,
+        lengths,
     }
 }
 

@@ -7,7 +7,7 @@ use native.Mathlib.Omega.{arith}
 use native.Mathlib.Numerals.{add-one}
 use lib.ListN.{length, get_or, set, drop, length-drop, length-map, drop_of_length-le}
 use lib.Seq.{drop-cons}
-use Rattle.std.proofs.lemmas.List.{drop-set}
+use Rattle.std.proofs.lemmas.List.{drop-set, set-set, get_or-set_same}
 use Rattle.lists.specs.Lists.{total}
 use Rattle.lists.proofs.Sums.{total-split}
 use Rattle.pooling.specs.Blocks.{Block, Place, Direction, steps_to, merged, push, blocks}
@@ -43,6 +43,13 @@ bins-top ps t h = ap bins_in (stack_top ps t h)
 -- what is stored on top
 pub stack-store : (ps : List Place) (t : ℕ) (p : Place) → t < length ps → stack_of (set ps t p) t ≡ p.block ∷ stack_of ps (t + 1)
 stack-store ps t p h = ap (map (λ (q : Place). q.block)) (drop-set ps t p h)
+
+-- its sum, and then its length
+pub stack-stores : (ps : List Place) (t : ℕ) (p : Place) (s : ℕ) (b : Block) → t < length ps → p.block.sum ≡ b.sum
+    → stack_of (set (set ps t p) t (record { start = s; block = record { sum = (get_or (set ps t p) t no_place).block.sum; len = b.len } })) t ≡ b ∷ stack_of ps (t + 1)
+stack-stores ps t p s b h e =
+    ap (λ (qs : List Place). stack_of qs t) (set-set ps t p _) ∙ stack-store ps t _ h
+    ∙ ap (λ (n : ℕ). record { sum = n; len = b.len } ∷ stack_of ps (t + 1)) (ap (λ (q : Place). q.block.sum) (get_or-set_same ps t p no_place h) ∙ e)
 
 -- ---- a push onto the stack: onto none, onto a top to which the step is strict, and into a top to which it is not
 pub push-none : (w : Direction) (b : Block) (ps : List Place) (t : ℕ) → length ps ≤ t → push w b (stack_of ps t) ≡ b ∷ stack_of ps t

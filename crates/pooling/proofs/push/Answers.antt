@@ -1,8 +1,8 @@
 -- What the loop of `push` keeps, and what it makes: the push of the definitions.
-use Rattle.std.proofs.Common.{◌≡◌, ◌+◌, ◌-◌, ◌<◌, ◌∙◌, ◌∷◌, length, sym, ap, arith}
+use Rattle.std.proofs.Common.{◌≡◌, ◌+◌, ◌-◌, ◌<◌, ◌∙◌, ◌∷◌, length, refl, sym, ap, arith}
 use Rattle.pooling.specs.Blocks.{direction}
 use Rattle.pooling.specs.Stack.{stack_of}
-use Rattle.pooling.proofs.Stacking.{sum_top, bins-top, push-none, push-strict, push-merged, stack-store}
+use Rattle.pooling.proofs.Stacking.{sum_top, bins-top, push-none, push-strict, push-merged, stack-stores}
 use Rattle.pooling.proofs.push.Goals as goal
 use Rattle.pooling.proofs.push.Goals.{else-loop-next-test, then-loop-next-test+then-steps_to}
 
@@ -37,7 +37,7 @@ returns-clause-pushed c =
     let ps = c.args.places.now in
     let w = direction c.args.rising in
     let free : v.next - 1 + 1 ≡ v.next = omega arith in
-    stack-store ps (v.next - 1) _ (omega arith)
+    stack-stores ps (v.next - 1) _ _ v.block (omega arith) refl
     ∙ ap (λ n. v.block ∷ stack_of ps n) free
     ∙ sym (elim c.loop-next-test.branch [
       | else-loop-next-test e ↦ push-none w v.block ps v.next (omega arith)
