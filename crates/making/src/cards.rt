@@ -58,7 +58,7 @@ fn held_entries(pixels: &[u8], numbers: &[u16], found: &Found) -> [Entry; MOST_E
 }
 
 // The entries, in lent scratch with a place or more for each pixel. The pixels' numbers are left in `order`, entry by entry. With too many entries none is made.
-// Written out in its two callers, so that the entries are made where the caller's card lies: called, it would hold them once more while the pixels are divided.
+// Written out in its two callers, so that the entries are made where the caller's card lies: called, it and what it calls would hold them several times over while the pixels are divided.
 #[inline(always)]
 pub fn make_entries(
     pixels: &[u8],

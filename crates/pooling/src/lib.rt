@@ -124,7 +124,7 @@ pub fn fit_places(h: &[u32], rising: bool, places: &mut [Place])
     write_places(h, rising, &mut places[..h.len()]);
 }
 
-// Writes the sum and the length of each bin's block, in the two lists that C reads. To write places first and read these out of them takes a third more time.
+// Writes the sum and the length of each bin's block, in the two lists that C reads. To write places first and read these out of them takes up to twice the time.
 pub fn fit_blocks(h: &[u32], rising: bool, sums: &mut [u32], lens: &mut [u32])
     requires small { Small h.now }
     requires h_in_bounds { (length h.now ≤ length sums.old) × (length h.now ≤ length lens.old) }
