@@ -18,15 +18,15 @@ unfolding asked_number first_ground
 returns-then-bytes-eq0-clause-number c =
     let n = length c.args.pixels.now in
     elim c.then-bytes-eq0.branch [
-      | then-bytes-eq0-via-then-bytes-eq0 w ↦ rw (eq-eqb n 0 w.if-bytes-eq0.true) refl
-      | then-bytes-eq0-via-else-bytes-eq0+then-bytes-gt0 w ↦ rw (ne_eqb n 0 w.if-bytes-eq0.false, lt-ltb 0 (n % 3) w.if-bytes-gt0.true) refl
+      | then-bytes-eq0-via-then-bytes-eq0 w ↦ rw (eq-eqb n 0 (omega (arith, w.if-bytes-eq0.true))) refl
+      | then-bytes-eq0-via-else-bytes-eq0+then-bytes-gt0 w ↦ rw (ne_eqb n 0 (λ z. omega (arith, z, w.if-bytes-eq0.false)), lt-ltb 0 (n % 3) (omega (arith, w.if-bytes-gt0.true))) refl
     ]
 
 pub returns-then-bytes-gt-MOST_PIXELS-clause-number : goal.returns-then-bytes-gt-MOST_PIXELS-clause-number
 unfolding asked_number first_ground most_pixels
 returns-then-bytes-gt-MOST_PIXELS-clause-number c =
     let n = length c.args.pixels.now in
-    rw (ne_eqb n 0 c.if-bytes-eq0.false, le-ltb 0 (n % 3) c.if-bytes-gt0.false, lt-ltb 65536 (n / 3) c.if-bytes-gt-MOST_PIXELS.true) refl
+    rw (ne_eqb n 0 (λ z. omega (arith, z, c.if-bytes-eq0.false)), le-ltb 0 (n % 3) (omega (arith, c.if-bytes-gt0.false)), lt-ltb 65536 (n / 3) (omega (arith, c.if-bytes-gt-MOST_PIXELS.true))) refl
 
 -- the grounds that are left once neither ground 4 nor ground 5 holds
 asked-left : (e : Closeness) (bytes : List ℕ) (places : ℕ) → (length bytes ≡ 0 → ⊥) → length bytes % 3 ≤ 0 → length bytes / 3 ≤ 65536
@@ -41,7 +41,7 @@ returns-in_err-checked-clause-number c =
     rw (p.1, p.2)
     (said
     ∙ sym (grounds-turned-down (bad_closeness c.args.closeness ∷ []) (bad_labels (length c.args.pixels.now / 3) c.args.places ∷ []) (λ z. ground-some c.in_err-checked.field-0.0 (said ∙ z)))
-    ∙ asked-left c.args.closeness c.args.pixels.now c.args.places c.if-bytes-eq0.false c.if-bytes-gt0.false c.if-bytes-gt-MOST_PIXELS.false)
+    ∙ asked-left c.args.closeness c.args.pixels.now c.args.places (λ z. omega (arith, z, c.if-bytes-eq0.false)) (omega (arith, c.if-bytes-gt0.false)) (omega (arith, c.if-bytes-gt-MOST_PIXELS.false)))
 
 -- those grounds, where neither ground 4 nor ground 5 nor ground 8 holds
 labels_left : (e : Closeness) (bytes : List ℕ) (places : ℕ) → (length bytes ≡ 0 → ⊥) → length bytes % 3 ≤ 0 → length bytes / 3 ≤ 65536 → first_ground (bad_closeness e ∷ []) ≡ 0
@@ -55,10 +55,10 @@ returns-in_err-check_labels-clause-number c =
     let said : 0 ≡ first_ground (bad_closeness c.args.closeness ∷ []) = rw (to_z-of_z w32 c.args.closeness c.ranges.closeness) at c.in_ok-checked.ensures.number in
     rw (p.1, p.2)
     (refused-alike _ _ (length c.args.pixels.now / 3) c.args.places _ c.in_err-check_labels.ensures (ground-some c.in_err-check_labels.field-0.0) (λ same. omega (arith, same))
-    ∙ labels_left c.args.closeness c.args.pixels.now c.args.places c.if-bytes-eq0.false c.if-bytes-gt0.false c.if-bytes-gt-MOST_PIXELS.false (sym said))
+    ∙ labels_left c.args.closeness c.args.pixels.now c.args.places (λ z. omega (arith, z, c.if-bytes-eq0.false)) (omega (arith, c.if-bytes-gt0.false)) (omega (arith, c.if-bytes-gt-MOST_PIXELS.false)) (sym said))
 
 pub returns-clause-number : goal.returns-clause-number
 returns-clause-number c =
     let said : 0 ≡ first_ground (bad_closeness c.args.closeness ∷ []) = rw (to_z-of_z w32 c.args.closeness c.ranges.closeness) at c.in_ok-checked.ensures.number in
     served-alike _ _ (length c.args.pixels.now / 3) c.args.places c.in_ok-check_labels.ensures (λ same. omega (arith, same))
-    ∙ labels_left c.args.closeness c.args.pixels.now c.args.places c.if-bytes-eq0.false c.if-bytes-gt0.false c.if-bytes-gt-MOST_PIXELS.false (sym said)
+    ∙ labels_left c.args.closeness c.args.pixels.now c.args.places (λ z. omega (arith, z, c.if-bytes-eq0.false)) (omega (arith, c.if-bytes-gt0.false)) (omega (arith, c.if-bytes-gt-MOST_PIXELS.false)) (sym said)

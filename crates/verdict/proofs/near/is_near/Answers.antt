@@ -23,7 +23,9 @@ first-is n k g m t a b e f h = rw e at (sym f ∙ h)
 
 pub returns-then-is_small : goal.returns-then-is_small
 unfolding is_near
-returns-then-is_small c = rw (first-is c.args.n c.args.k c.abs_diff-gap.result c.args.m c.args.t c.is_small.result true c.abs_diff-gap.ensures c.is_small.ensures c.if-is_small.true) refl
+returns-then-is_small c =
+    let apart : c.abs_diff-gap.result ≡ gap c.args.k c.args.m = omega arith in
+    rw (first-is c.args.n c.args.k c.abs_diff-gap.result c.args.m c.args.t c.is_small.result true apart c.is_small.ensures c.if-is_small.true) refl
 
 pub is_small-requires-2 : goal.is_small-requires-2
 is_small-requires-2 c = (omega (arith, c.min-least.ensures, fitted-small c.args.n c.args.k c.args.m c.requires.logs_defined), c.requires.usable)
@@ -31,5 +33,6 @@ is_small-requires-2 c = (omega (arith, c.min-least.ensures, fitted-small c.args.
 pub returns : goal.returns
 unfolding is_near
 returns c =
-    rw (first-is c.args.n c.args.k c.abs_diff-gap.result c.args.m c.args.t c.is_small.result false c.abs_diff-gap.ensures c.is_small.ensures c.if-is_small.false)
-    (c.is_small-2.ensures ∙ rw (c.min-least.ensures, c.abs_diff-gap.ensures) refl)
+    let apart : c.abs_diff-gap.result ≡ gap c.args.k c.args.m = omega arith in
+    rw (first-is c.args.n c.args.k c.abs_diff-gap.result c.args.m c.args.t c.is_small.result false apart c.is_small.ensures c.if-is_small.false)
+    (c.is_small-2.ensures ∙ rw (c.min-least.ensures, apart) refl)
