@@ -27,6 +27,16 @@ impl Found {
             count: 0,
         }
     }
+
+    // One entry more, kept where there is room, for whoever holds a `Found`. The division itself calls `leaf`, for a list of any length.
+    pub fn add(&mut self, code: u32, size: usize)
+        requires { (size < 2 ^ 32) × (self.old.count < 2 ^ 32) }
+        ensures { (self.new.count ≡ self.old.count + 1)
+            × (codes_of self.new.ranges ≡ set (codes_of self.old.ranges) self.old.count code)
+            × (sizes_of self.new.ranges ≡ set (sizes_of self.old.ranges) self.old.count size) }
+    {
+        self.count = leaf(code, size, &mut self.ranges, self.count);
+    }
 }
 
 // One entry after those found, kept where there is room: how many are found then.
@@ -43,4 +53,33 @@ pub fn leaf(code: u32, size: usize, ranges: &mut [CodedRange], found: usize) -> 
         };
     }
     found + 1
+}
+
+#[cfg(test)]
+mod tests {
+    use super::{Found, MOST_ENTRIES};
+
+    // An entry past the room is counted, and those that are kept stay.
+    #[test]
+    fn adds_entries(rt: HostRuntime) {
+        let mut found = Found::new();
+        found.add(65, 2);
+        found.add(4160, 3);
+        assert_eq!(rt; found.count, 2);
+        assert_eq!(rt; found.ranges[0].code, 65);
+        assert_eq!(rt; found.ranges[0].size, 2);
+        assert_eq!(rt; found.ranges[1].code, 4160);
+        assert_eq!(rt; found.ranges[1].size, 3);
+        // as if all places but one were taken
+        found.count = MOST_ENTRIES - 1;
+        found.add(5, 7);
+        found.add(6, 8);
+        assert_eq!(rt; found.count, MOST_ENTRIES + 1);
+        assert_eq!(rt; found.ranges[MOST_ENTRIES - 1].code, 5);
+        assert_eq!(rt; found.ranges[MOST_ENTRIES - 1].size, 7);
+        assert_eq!(rt; found.ranges[0].code, 65);
+        assert_eq!(rt; found.ranges[0].size, 2);
+        assert_eq!(rt; found.ranges[1].code, 4160);
+        assert_eq!(rt; found.ranges[1].size, 3);
+    }
 }
